@@ -1,0 +1,9 @@
+//! Times, and the types in which samples are handed on.
+//!
+//! Times are in microseconds (us) or in ticks, of which a track's timescale has so many a second
+//! (ISO/IEC 14496-12, 8.4.2).
+#![tactic(auto)]
+
+mod types;
+
+pub use types::{Chunk, Kind, Sample, Samples, Setup, Stored};
