@@ -63,6 +63,15 @@ impl<T> Items<T> {
         self.items.is_empty()
     }
 
+    /// Takes away all but the first items.
+    pub fn cut(&mut self, len: usize)
+    where
+        T: Drop,
+        ensures { self.new ≡ take len self.old }
+    {
+        self.items.truncate(len);
+    }
+
     /// Puts an item at the end, or gives it back where there is no memory.
     pub fn push(&mut self, item: T) -> Result<(), AllocFailed<T>>
         ensures ok { OnOk result (self.new ≡ self.old ++ item ∷ []) }
