@@ -4,6 +4,11 @@
 //! (ISO/IEC 14496-12, 8.4.2).
 #![tactic(auto)]
 
+mod times;
 mod types;
 
+pub use times::{greatest_us, nearest_tick, rising_tick, to_tick, to_us};
 pub use types::{Chunk, Kind, Sample, Samples, Setup, Stored};
+
+#[cfg(test)]
+mod tests;
