@@ -1,0 +1,148 @@
+use super::*;
+use sf_list::{Bytes, Text};
+use std::alloc::{AllocError, Global};
+use std::test::Fail;
+
+// What a read at a place answers, and the first two bytes of the buffer then.
+fn read<S: Source>(source: &mut S, at: u64) -> (Result<usize, Failed>, [u8; 2]) {
+    let mut into = [0u8; 2];
+    let count = source.read_at(at, &mut into);
+    (count, into)
+}
+
+fn abc(alloc: Global) -> Result<Bytes, AllocError> {
+    Bytes::from_slice(alloc, b"abc")
+}
+
+#[test]
+fn the_named_reads_of_a_source_fail(rt: HostRuntime) -> Result<(), Fail> {
+    let alloc = rt.alloc();
+    let mut source = MemSource::new(alloc, abc(alloc)?, vec![in alloc; 1, 3]?);
+    assert_eq!(rt; source.length(), 3);
+    let answers = [
+        (0, Ok(2), *b"ab"),
+        (0, Err(Failed), [0, 0]),
+        (2, Ok(1), *b"c\0"),
+        (2, Err(Failed), [0, 0]),
+        (3, Ok(0), [0, 0]),
+        (u64::MAX, Ok(0), [0, 0]),
+    ];
+    for (at, count, bytes) in answers {
+        let read = read(&mut source, at);
+        assert_eq!(rt; read.0, count, "at {at}");
+        assert_eq!(rt; read.1, bytes, "at {at}");
+    }
+    assert_eq!(rt; source.count(), 2);
+    Ok(())
+}
+
+#[test]
+fn a_source_without_failing_reads_never_fails(rt: HostRuntime) -> Result<(), Fail> {
+    let alloc = rt.alloc();
+    let mut named = MemSource::new(alloc, abc(alloc)?, Vec::new(alloc));
+    let mut sure = SureSource::new(alloc, abc(alloc)?);
+    assert_eq!(rt; sure.length(), 3);
+    for (at, count, bytes) in [(1, 2, *b"bc"), (2, 1, *b"c\0"), (4, 0, [0, 0])] {
+        assert_eq!(rt; read(&mut named, at), (Ok(count), bytes), "at {at}");
+        assert_eq!(rt; read(&mut sure, at), (Ok(count), bytes), "at {at}");
+    }
+    assert_eq!(rt; named.count(), 0);
+    Ok(())
+}
+
+#[test]
+fn inputs_are_fetched_by_name(rt: HostRuntime) -> Result<(), Fail> {
+    let alloc = rt.alloc();
+    let mut named = Vec::new(alloc);
+    for (name, bytes) in [("a", b"abc"), ("b", b"bbb"), ("a", b"xyz")] {
+        named.push((
+            Text::from_str(alloc, name)?,
+            Bytes::from_slice(alloc, bytes)?,
+        ))?;
+    }
+    let mut inputs = MemInputs::new(alloc, named, vec![in alloc; 0]?);
+    assert!(rt; matches!(inputs.fetch("c"), Err(Denied::Failed)));
+    // Each source fails at its own first read, and the first pair of a name counts.
+    for (name, bytes) in [("b", *b"bb"), ("a", *b"ab"), ("a", *b"ab")] {
+        let Ok(mut source) = inputs.fetch(name) else {
+            return Err(Fail::from(Failed));
+        };
+        assert_eq!(rt; read(&mut source, 0).0, Err(Failed), "of {name}");
+        assert_eq!(rt; read(&mut source, 0), (Ok(2), bytes), "of {name}");
+        assert_eq!(rt; source.count(), 1, "of {name}");
+        inputs.give_back(source);
+    }
+    Ok(())
+}
+
+// Makes a sink, appends "ab" and "cd" to it, patches "x" into it at 1, and keeps it.
+fn write<O: Shelf>(shelf: &mut O, name: &str) -> [bool; 4] {
+    let Ok(mut sink) = shelf.create(name) else {
+        return [false; 4];
+    };
+    let first = sink.append(b"ab").is_ok();
+    let second = sink.append(b"cd").is_ok();
+    let patched = first && second && sink.patch(1, b"x").is_ok();
+    shelf.keep(sink);
+    [true, first, second, patched]
+}
+
+#[test]
+fn the_named_calls_of_a_shelf_and_its_sinks_fail(rt: HostRuntime) -> Result<(), Fail> {
+    let alloc = rt.alloc();
+    let mut shelf = MemShelf::new(alloc, vec![in alloc; 1]?);
+    shelf.fail_on(1, 1)?;
+    shelf.fail_on(2, 2)?;
+    shelf.fail_on(3, 0)?;
+    shelf.fail_on(0, 4)?;
+    // The second and the fifth `create` fail, so the third one makes the second sink.
+    let answers = [
+        [true, true, false, false],
+        [false; 4],
+        [true, true, true, false],
+        [true, false, true, false],
+        [false; 4],
+        [true; 4],
+    ];
+    for answer in answers {
+        assert_eq!(rt; write(&mut shelf, "f"), answer);
+    }
+    assert_eq!(rt; shelf.file(0), Some(b"ab".as_slice()));
+    assert_eq!(rt; shelf.file(1), Some(b"abcd".as_slice()));
+    assert_eq!(rt; shelf.file(2), Some(b"cd".as_slice()));
+    assert_eq!(rt; shelf.file(3), Some(b"axcd".as_slice()));
+    assert_eq!(rt; shelf.file(4), None);
+    Ok(())
+}
+
+#[test]
+fn a_sink_serves_as_a_text_that_fails_at_its_first_append(rt: HostRuntime) -> Result<(), Fail> {
+    let alloc = rt.alloc();
+    let mut shelf = MemShelf::new(alloc, Vec::new(alloc));
+    shelf.fail_on(1, 0)?;
+    let Ok(mut text) = shelf.create("text") else {
+        return Err(Fail::from(Failed));
+    };
+    assert_eq!(rt; text.append(b"done\n"), Err(Denied::Failed));
+    assert_eq!(rt; text.append(b"done\n"), Ok(()));
+    shelf.keep(text);
+    assert_eq!(rt; shelf.file(0), Some(b"done\n".as_slice()));
+    Ok(())
+}
+
+#[test]
+fn a_sure_shelf_and_a_text_never_fail(rt: HostRuntime) -> Result<(), Fail> {
+    let alloc = rt.alloc();
+    let mut shelf = SureShelf::new(alloc);
+    assert_eq!(rt; shelf.file(0), None);
+    assert_eq!(rt; write(&mut shelf, "f"), [true; 4]);
+    assert_eq!(rt; write(&mut shelf, "g"), [true; 4]);
+    assert_eq!(rt; shelf.file(1), Some(b"axcd".as_slice()));
+    assert_eq!(rt; shelf.file(2), None);
+
+    let mut text = MemText::new(alloc);
+    text.append(b"file 1 640\n").map_err(|_| Failed)?;
+    text.patch(5, b"2").map_err(|_| Failed)?;
+    assert_eq!(rt; text.bytes(), b"file 2 640\n".as_slice());
+    Ok(())
+}
