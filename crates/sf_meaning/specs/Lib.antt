@@ -1,0 +1,9 @@
+pub mod Reads
+pub mod Steps
+pub mod Entry
+pub mod Form
+pub mod Tables
+pub mod Movie
+pub mod Joined
+pub mod Layout
+pub mod Writable

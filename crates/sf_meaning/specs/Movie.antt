@@ -1,0 +1,232 @@
+use Rattle.std.specs.Prelude.{ℕ, pos, ◌+◌, ◌*◌, ◌%◌, ◌^◌, ◌==◌, nat_lt, nat_le, Bool, true, false, not, ◌||◌, ◌&&◌, List, [], ◌∷◌, length, take, drop, map, sum, codes, Option, Some, None, Result, Ok, Err, if◌then◌else◌, get_or}
+use Rattle.std.specs.List.{slice_get}
+use Rattle.sf_box.specs.Parts.{child_piece}
+use Rattle.sf_box.specs.Boxes.{Piece, boxes, leading, word32, word64}
+use Rattle.sf_meaning.specs.Steps.{◌>>=◌, ◌>>◌, check, needed, as_fault, of_kind, first_of, body_at, four}
+use Rattle.sf_meaning.specs.Form.{known_stsd, moov_form}
+use Rattle.sf_meaning.specs.Tables.{Spread, running, chunk_entries, placed, described, rising, count_in, deltas_in, spreads_in, places_in, sample_count, sizes_in}
+use Rattle.sf_meaning.specs.declared.faults.HeadFault.TheVariants as heads
+use Rattle.sf_meaning.specs.declared.faults.TableFault.TheVariants as tables
+use Rattle.sf_meaning.specs.declared.faults.MovieFault.{MovieFault}
+use Rattle.sf_meaning.specs.declared.faults.MovieFault.TheVariants as movies
+use Rattle.sf_meaning.specs.declared.movie.TrackKind.{TrackKind}
+use Rattle.sf_meaning.specs.declared.movie.TrackKind.TheVariants.{Aac}
+use Rattle.sf_meaning.specs.declared.movie.PlainSample.{PlainSample}
+use Rattle.sf_meaning.specs.declared.movie.PlainTrack.{PlainTrack}
+use Rattle.sf_meaning.specs.declared.movie.PlainMovie.{PlainMovie}
+
+-- A step of reading: its value, or the first thing that is wrong.
+abbrev pub Step : Type 0 → Type 0
+Step A = Result A MovieFault
+
+-- the boxes inside a box of the headers
+unfoldable pub inside : Piece → Step (List Piece)
+inside p = as_fault (λ f. movies.Head (heads.Tiling f)) (boxes false (body_at p) p.body)
+
+-- the first box of a type, which the headers need in this holder
+abbrev pub needed_head : Piece → List ℕ → List Piece → Step Piece
+needed_head holder kind ps = needed (child_piece ps kind) (movies.Head (heads.Missing (four kind) (body_at holder)))
+
+-- Where the timescale stands in the body of a movie header or a media header: behind two times, of eight bytes each in version 1 (8.2.2, 8.4.2).
+abbrev pub scale_place : List ℕ → ℕ
+scale_place body = if get_or body 0 0 == 1 then 20 else 12
+
+-- ticks a second, of a movie header or a media header
+unfoldable pub timescale_in : Piece → Step ℕ
+timescale_in p = do
+  check (nat_le (scale_place p.body + 4) (length p.body)) (movies.Head (heads.Short p.head.kind p.head.at))
+  check (not (word32 (drop (scale_place p.body) p.body) == 0)) (movies.Head (heads.Scale0 p.head.at))
+  Ok (word32 (drop (scale_place p.body) p.body))
+
+-- the start that a box with the file's start says
+abbrev pub start_said : Option Piece → ℕ
+start_said None = 0
+start_said (Some p) = if nat_lt (length p.body) 8 then 0 else word64 p.body
+
+-- When the file starts, in microseconds after the series' start: the box sfts of the user data (8.10.1), this project's own.
+abbrev pub start_in : Option Piece → ℕ
+start_in None = 0
+start_in (Some udta) = start_said (child_piece (leading (body_at udta) udta.body) (codes "sfts"))
+
+-- each entry of a data reference box has its flags
+abbrev pub flagged : List Piece → Step (Unit {0})
+flagged [] = Ok tt
+flagged (p ∷ ps) = do
+  check (nat_le 4 (length p.body)) (movies.Head (heads.Short p.head.kind p.head.at))
+  flagged ps
+
+-- For each entry of a data reference box, whether it names this very file: flag 1 (8.7.2).
+unfoldable pub own_files : List Piece → Step (List Bool)
+own_files entries = do
+  flagged entries
+  Ok (map (λ p. word32 p.body % 2 == 1) entries)
+
+-- the same of the box as a whole
+unfoldable pub references_in : Option Piece → Step (List Bool)
+references_in None = Ok []
+references_in (Some dref) = do
+  check (nat_le 8 (length dref.body)) (movies.Head (heads.Short dref.head.kind dref.head.at))
+  entries ← as_fault (λ f. movies.Head (heads.Tiling f)) (boxes false (body_at dref + 8) (drop 8 dref.body))
+  own_files entries
+
+-- the same of a data information box (8.7.1)
+unfoldable pub references_of : Option Piece → Step (List Bool)
+references_of None = Ok []
+references_of (Some dinf) = do
+  ps ← inside dinf
+  references_in (child_piece ps (codes "dref"))
+
+-- a reference that isn't there names no other file
+abbrev pub is_own : Option Bool → Bool
+is_own None = true
+is_own (Some own) = own
+
+-- What the sample entries describe. Until more of them are read, the only one is AAC, in the first data reference.
+unfoldable pub kind_in : List Bool → Piece → Step TrackKind
+kind_in references stsd = do
+  known_stsd stsd
+  check (is_own (slice_get references 0)) (movies.External (body_at stsd + 8))
+  Ok Aac
+
+-- a table that a track needs
+abbrev pub needed_table : Piece → List ℕ → List Piece → Step Piece
+needed_table stbl kind ps = needed (child_piece ps kind) (movies.Table (tables.Missing (four kind) (body_at stbl)))
+
+abbrev pub short_table : Piece → MovieFault
+short_table p = movies.Table (tables.Short p.head.kind p.head.at)
+
+-- a table holds its count, and as many entries of so many bytes
+unfoldable pub counted : ℕ → Piece → Step (Unit {0})
+counted width p = check (nat_le 8 (length p.body) && nat_le (8 + width * count_in p.body) (length p.body)) (short_table p)
+
+-- the entries begin with chunk 1, and each begins after the one before
+abbrev pub begins_rising : List Spread → Bool
+begins_rising [] = true
+begins_rising (e ∷ es) = e.first == 1 && rising 1 (map (λ f. f.first) es)
+
+-- the sample-to-chunk box is whole and in order (8.7.4)
+unfoldable pub spread_in_order : Piece → Step (Unit {0})
+spread_in_order stsc = do
+  whole ← counted 12 stsc
+  check (begins_rising (spreads_in stsc.body)) (movies.Table (tables.NotRising stsc.head.kind stsc.head.at))
+
+-- the sample size box is whole, and counts no more samples than a track may have (8.7.3)
+unfoldable pub sizes_whole : Piece → Step (Unit {0})
+sizes_whole stsz = do
+  check (nat_le 12 (length stsz.body)) (short_table stsz)
+  check (nat_le (sample_count stsz.body) 16777216) (movies.Table (tables.TooMany stsz.head.at (sample_count stsz.body)))
+  check (not (word32 (drop 4 stsz.body) == 0) || nat_le (12 + 4 * sample_count stsz.body) (length stsz.body)) (short_table stsz)
+
+-- each sample's description is among so many entries
+abbrev pub descriptions_known : Piece → ℕ → List ℕ → Step (Unit {0})
+descriptions_known stsc entries [] = Ok tt
+descriptions_known stsc entries (d ∷ ds) = do
+  check (not (d == 0) && nat_le d entries) (movies.Table (tables.Description stsc.head.at d))
+  descriptions_known stsc entries ds
+
+-- one sample for each size, with its decode time, its place and its description
+abbrev pub rows : List ℕ → List ℕ → List ℕ → List ℕ → List PlainSample
+rows [] decodes places descriptions = []
+rows (size ∷ sizes) [] places descriptions = []
+rows (size ∷ sizes) (d ∷ decodes) [] descriptions = []
+rows (size ∷ sizes) (d ∷ decodes) (p ∷ places) [] = []
+rows (size ∷ sizes) (d ∷ decodes) (p ∷ places) (e ∷ descriptions) =
+    record { decode = d; compose = pos d; sync = true; place = p; size = size; description = e } ∷ rows sizes decodes places descriptions
+
+-- The samples that the tables of a track say (8.6.1.2, 8.7.3 to 8.7.5), or the first thing that is wrong with the tables.
+unfoldable pub samples_in : ℕ → ℕ → Piece → Piece → Piece → Piece → Step (List PlainSample)
+samples_in scale entries stts stsc stsz stco = do
+  let n = sample_count stsz.body
+  let deltas = deltas_in stts.body
+  let spread = chunk_entries (spreads_in stsc.body) (count_in stco.body)
+  check (nat_le n (length deltas)) (short_table stts)
+  check (nat_le (sum (take n deltas)) (2 ^ 40 * scale)) (movies.Table (tables.SumTooLarge stts.head.at))
+  check (nat_le n (sum (map (λ e. e.per) spread))) (short_table stsc)
+  descriptions_known stsc entries (take n (described spread))
+  Ok (rows (sizes_in stsz.body) (running 0 deltas) (placed (places_in stco.body) (map (λ e. e.per) spread) (sizes_in stsz.body)) (described spread))
+
+-- the samples of a sample table box (8.5.1)
+unfoldable pub tables_in : ℕ → ℕ → Piece → List Piece → Step (List PlainSample)
+tables_in scale entries stbl ps = do
+  stts ← needed_table stbl (codes "stts") ps
+  counted 8 stts
+  stsc ← needed_table stbl (codes "stsc") ps
+  spread_in_order stsc
+  stsz ← needed_table stbl (codes "stsz") ps
+  sizes_whole stsz
+  stco ← needed_table stbl (codes "stco") ps
+  counted 4 stco
+  samples_in scale entries stts stsc stsz stco
+
+-- Each sample lies in the file, which has so many bytes, and none is too long. Samples count from i.
+abbrev pub held_in : ℕ → ℕ → ℕ → List PlainSample → Step (Unit {0})
+held_in bytes track i [] = Ok tt
+held_in bytes track i (s ∷ ss) = do
+  check (nat_le (s.place + s.size) bytes) (movies.SampleOutside track i)
+  check (nat_le s.size 67108864) (movies.SampleTooLarge track i s.size)
+  held_in bytes track (i + 1) ss
+
+-- what a sample table box says of the track's kind and its samples
+unfoldable pub table_in : ℕ → List Bool → Piece → Step (TrackKind × List PlainSample)
+table_in scale references stbl = do
+  ps ← as_fault (λ f. movies.Table (tables.Tiling f)) (boxes false (body_at stbl) stbl.body)
+  stsd ← needed_table stbl (codes "stsd") ps
+  kind ← kind_in references stsd
+  samples ← tables_in scale 1 stbl ps
+  Ok (kind, samples)
+
+-- a track (8.3.1), of a file of so many bytes
+unfoldable pub track_in : ℕ → ℕ → Piece → Step PlainTrack
+track_in bytes number trak = do
+  in_trak ← inside trak
+  mdia ← needed_head trak (codes "mdia") in_trak
+  in_mdia ← inside mdia
+  mdhd ← needed_head mdia (codes "mdhd") in_mdia
+  scale ← timescale_in mdhd
+  minf ← needed_head mdia (codes "minf") in_mdia
+  in_minf ← inside minf
+  references ← references_of (child_piece in_minf (codes "dinf"))
+  stbl ← needed_head minf (codes "stbl") in_minf
+  table ← table_in scale references stbl
+  held_in bytes number 0 table.1
+  Ok (record { kind = table.0; scale = scale; lead = 0; media_time = 0; samples = table.1 })
+
+-- the tracks in order, counted from a number
+unfoldable pub tracks_in : ℕ → ℕ → List Piece → Step (List PlainTrack)
+tracks_in bytes number [] = Ok []
+tracks_in bytes number (trak ∷ traks) = do
+  track ← track_in bytes number trak
+  tracks ← tracks_in bytes (number + 1) traks
+  Ok (track ∷ tracks)
+
+-- no box of a kind
+abbrev pub none_of : Option Piece → (Piece → MovieFault) → Step (Unit {0})
+none_of None f = Ok tt
+none_of (Some p) f = Err (f p)
+
+-- The movie that the body of a movie box is (8.2.1), of a file of so many bytes.
+unfoldable pub movie_in : List ℕ → ℕ → ℕ → Step PlainMovie
+movie_in body at bytes = do
+  moov_form body at
+  ps ← as_fault movies.Tiling (boxes false at body)
+  none_of (child_piece ps (codes "cmov")) (λ p. movies.Compressed p.head.at)
+  none_of (first_of (drop 64 (of_kind (codes "trak") ps))) (λ p. movies.TooManyTracks p.head.at)
+  mvhd ← needed (child_piece ps (codes "mvhd")) (movies.Head (heads.Missing (four (codes "mvhd")) at))
+  scale ← timescale_in mvhd
+  tracks ← tracks_in bytes 0 (of_kind (codes "trak") ps)
+  Ok (record { scale = scale; start_us = start_in (child_piece ps (codes "udta")); tracks = tracks })
+
+-- the only movie box among the boxes of a file of so many bytes
+unfoldable pub only_moov : ℕ → List Piece → Step Piece
+only_moov bytes [] = Err (movies.NoMoov bytes)
+only_moov bytes (moov ∷ second ∷ more) = Err (movies.TwoMoov second.head.at)
+only_moov bytes (moov ∷ []) = do
+  check (nat_le moov.head.size 268435456) (movies.MoovTooLarge moov.head.at moov.head.size)
+  Ok moov
+
+-- The movie that a file's bytes are, or the first thing that is wrong with them.
+unfoldable pub movie : List ℕ → Step PlainMovie
+movie file = do
+  ps ← as_fault movies.Tiling (boxes true 0 file)
+  moov ← only_moov (length file) (of_kind (codes "moov") ps)
+  movie_in moov.body (body_at moov) (length file)

@@ -1,0 +1,84 @@
+use Rattle.std.specs.Prelude.{ℕ, zero, suc, ◌+◌, ◌-◌, ◌==◌, nat_lt, Bool, true, ◌&&◌, List, [], ◌∷◌, ◌++◌, take, drop, replicate, if◌then◌else◌}
+use Rattle.std.specs.List.{flat_map}
+use Rattle.sf_box.specs.Boxes.{word32}
+
+-- so many numbers of four bytes
+abbrev pub words : ℕ → List ℕ → List ℕ
+words zero bytes = []
+words (suc n) bytes = word32 bytes ∷ words n (drop 4 bytes)
+
+-- so many runs: a count and a value
+abbrev pub run_pairs : ℕ → List ℕ → List (ℕ × ℕ)
+run_pairs zero bytes = []
+run_pairs (suc n) bytes = (word32 bytes, word32 (drop 4 bytes)) ∷ run_pairs n (drop 8 bytes)
+
+-- An entry of the sample-to-chunk box: the number of its first chunk, from 1, samples in each chunk, and their description (8.7.4).
+pub record Spread : Type 0 where
+  pub first : ℕ
+  pub per : ℕ
+  pub description : ℕ
+
+abbrev pub spreads : ℕ → List ℕ → List Spread
+spreads zero bytes = []
+spreads (suc n) bytes = record { first = word32 bytes; per = word32 (drop 4 bytes); description = word32 (drop 8 bytes) } ∷ spreads n (drop 12 bytes)
+
+-- each value as often as its run says (8.6.1.2)
+abbrev pub expand : {A : Type 0} → List (ℕ × A) → List A
+expand [] = []
+expand (run ∷ runs) = replicate run.0 run.1 ++ expand runs
+
+-- the sums before each item, from t on
+abbrev pub running : ℕ → List ℕ → List ℕ
+running t [] = []
+running t (x ∷ xs) = t ∷ running (t + x) xs
+
+-- the entry of each chunk: an entry holds up to the chunk before the next entry's first
+abbrev pub spread_over : List Spread → ℕ → List Spread
+spread_over [] chunks = []
+spread_over (e ∷ []) chunks = replicate (chunks + 1 - e.first) e
+spread_over (e ∷ f ∷ es) chunks = replicate (f.first - e.first) e ++ spread_over (f ∷ es) chunks
+
+-- the entry of each chunk that is there
+abbrev pub chunk_entries : List Spread → ℕ → List Spread
+chunk_entries es chunks = take chunks (spread_over es chunks)
+
+-- the place of each sample, from the chunks' places and counts and the samples' sizes
+abbrev pub placed : List ℕ → List ℕ → List ℕ → List ℕ
+placed [] counts sizes = []
+placed (place ∷ places) [] sizes = []
+placed (place ∷ places) (count ∷ counts) sizes = running place (take count sizes) ++ placed places counts (drop count sizes)
+
+-- the description of each sample
+abbrev pub described : List Spread → List ℕ
+described es = flat_map (λ e. replicate e.per e.description) es
+
+-- whether each number is above the one before, the first above t
+abbrev pub rising : ℕ → List ℕ → Bool
+rising t [] = true
+rising t (x ∷ xs) = nat_lt t x && rising x xs
+
+-- Behind version and flags a table begins with its count.
+abbrev pub count_in : List ℕ → ℕ
+count_in body = word32 (drop 4 body)
+
+-- the deltas of decode times (8.6.1.2)
+abbrev pub deltas_in : List ℕ → List ℕ
+deltas_in stts = expand (run_pairs (count_in stts) (drop 8 stts))
+
+-- the sample-to-chunk entries (8.7.4)
+abbrev pub spreads_in : List ℕ → List Spread
+spreads_in stsc = spreads (count_in stsc) (drop 8 stsc)
+
+-- the places of the chunks (8.7.5)
+abbrev pub places_in : List ℕ → List ℕ
+places_in stco = words (count_in stco) (drop 8 stco)
+
+-- how many samples there are (8.7.3.2)
+abbrev pub sample_count : List ℕ → ℕ
+sample_count stsz = word32 (drop 8 stsz)
+
+-- their sizes: one for all, or one for each (8.7.3.2)
+abbrev pub sizes_in : List ℕ → List ℕ
+sizes_in stsz =
+    if word32 (drop 4 stsz) == 0 then words (sample_count stsz) (drop 12 stsz)
+    else replicate (sample_count stsz) (word32 (drop 4 stsz))

@@ -1,0 +1,38 @@
+use Rattle.std.specs.Prelude.{◌≡◌, ℕ, ◌+◌, ◌-◌, ◌^◌, ◌<◌, ◌≤◌, true, List, [], ◌∷◌, length}
+use Rattle.std.specs.List.{AllByRecursion}
+use Rattle.sf_box.specs.Parts.{tiled}
+use Rattle.sf_tick.specs.Tick.{tick}
+use Rattle.sf_tick.specs.declared.types.Stored.{Stored}
+use Rattle.sf_tick.specs.declared.types.Chunk.{Chunk}
+use Rattle.sf_meaning.specs.Layout.{samples_of, decodes_of, stored_bytes, duration_of, length_us_of, first_dts, moov_parts}
+
+-- a sample that is sync, shown when it is decoded, and neither empty nor too long
+pub record IsPlain (s : Stored) : Type 0 where
+  pub compose_is : s.compose ≡ s.decode
+  pub sync_is : s.sync ≡ true
+  pub some : 0 < length s.bytes
+  pub short : length s.bytes ≤ 67108864
+
+-- Decode times don't fall, and each is less than 2^32 ticks behind the one before.
+abbrev pub Paced : ℕ → List ℕ → Type 0
+Paced t [] = Unit {0}
+Paced t (u ∷ ts) = (t ≤ u) × (u - t < 2 ^ 32) × Paced u ts
+
+-- The first decode time is that of the file's start, and the others follow it.
+abbrev pub PacedFrom : ℕ → List ℕ → Type 0
+PacedFrom start [] = Unit {0}
+PacedFrom start (t ∷ ts) = (t ≡ start) × Paced t ts
+
+-- Chunks of one track that a file with this timescale and this sample entry can hold.
+pub record Writable (scale : ℕ) (entry : List ℕ) (chunks : List Chunk) : Type 0 where
+  pub scale_some : 1 ≤ scale
+  pub scale_fits : scale < 2 ^ 32
+  pub filled : AllByRecursion (λ c. 0 < length c.samples) chunks
+  pub plain : AllByRecursion IsPlain (samples_of chunks)
+  pub paced : PacedFrom (tick (first_dts (samples_of chunks)) scale) (decodes_of (samples_of chunks))
+  pub start : first_dts (samples_of chunks) < 2 ^ 64
+  pub few : length (samples_of chunks) ≤ 16777216
+  pub duration : duration_of chunks < 2 ^ 32
+  pub length_us : length_us_of scale chunks < 2 ^ 32
+  pub payload : 40 + length (stored_bytes (samples_of chunks)) < 2 ^ 32
+  pub moov : 8 + length (tiled (moov_parts scale entry chunks)) ≤ 268435456

@@ -1,0 +1,32 @@
+//! What the bytes of a movie file mean (ISO/IEC 14496-12).
+//!
+//! `specs/Movie.antt` says which movie a file's bytes are, or the first thing that is wrong with
+//! them; `specs/Joined.antt` says which samples a series of files holds; `specs/Layout.antt` says
+//! which bytes the writer gives a file. None of them knows of the others' code: that a file that
+//! was laid out is read back is a law, which `layout_is_read_back` states.
+#![tactic(auto)]
+
+ghost use Rattle.std.specs.Prelude.{◌≡◌, ℕ, List, [], ◌∷◌, map, Some, Ok};
+ghost use Rattle.sf_tick.specs.declared.types.Chunk.{Chunk};
+ghost use Rattle.sf_meaning.specs.Joined.{joined};
+ghost use Rattle.sf_meaning.specs.Layout.{held_as, layout, samples_of};
+ghost use Rattle.sf_meaning.specs.Entry.{aac_entry};
+ghost use Rattle.sf_meaning.specs.Writable.{Writable};
+
+mod boxes;
+mod faults;
+mod form;
+mod found;
+mod headers;
+mod movie;
+mod stop;
+
+pub use faults::{EntryFault, HeadFault, MovieFault, TableFault};
+pub use movie::{PlainMovie, PlainSample, PlainTrack, TrackKind};
+
+/// The law of written files: the samples of a file that was laid out are those of its chunks, each
+/// once, in order, with their bytes, their sync flags and their times.
+pub fn layout_is_read_back()
+    ensures { (scale : ℕ) (chunks : List Chunk) → Writable scale aac_entry chunks
+        → joined (layout scale aac_entry chunks ∷ []) 0 ≡ Some (map held_as (samples_of chunks)) }
+{}
