@@ -1,0 +1,13 @@
+pub mod Accepts
+pub mod Beginnings
+pub mod Going
+pub mod Lengths
+pub mod Runs
+pub mod Sizes
+pub mod OneChunk
+pub mod Bounds
+pub mod Pieces
+pub mod Writable
+pub mod Parts
+pub mod FileOf
+pub mod KeptWhole

@@ -1,0 +1,11 @@
+pub mod Codes
+pub mod Words
+pub mod Narrow
+pub mod Input
+pub mod Turn
+pub mod Fetched
+pub mod Pieces
+pub mod Tables
+pub mod Kept
+pub mod Lines
+pub mod Answers

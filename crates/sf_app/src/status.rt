@@ -1,0 +1,65 @@
+ghost use Rattle.std.specs.Prelude.{◌≡◌};
+ghost use Rattle.sf_app.specs.Codes.{code_of};
+
+/// What is wrong with the words.
+#[derive(Clone, Copy, Debug, PartialEq, Eq)]
+pub enum UsageFault {
+    /// The first word is missing or is no command.
+    Command,
+    /// The words after the command aren't what it takes.
+    Words,
+}
+
+/// What is wrong with the bytes of a coded sample file. Places count bytes from its start.
+#[derive(Clone, Copy, Debug, PartialEq, Eq)]
+pub enum CodedFault {
+    /// The file ends, at its length `at`, within a part or before its end is told.
+    Truncated { at: u64 },
+}
+
+/// Why an input is refused.
+#[derive(Clone, Copy, Debug, PartialEq, Eq)]
+pub enum InputFault {
+    Coded(CodedFault),
+    /// It is whole so far and of a form that isn't taken yet.
+    NotYet,
+}
+
+/// Why the input of a track is refused, and at which place in its bytes.
+#[derive(Clone, Copy, Debug, PartialEq, Eq)]
+pub struct TrackFault {
+    pub why: InputFault,
+    pub place: u64,
+}
+
+/// How the program ends. Inputs and tracks are numbered from 0.
+#[derive(Clone, Copy, Debug, PartialEq, Eq)]
+pub enum Status {
+    /// The command did its whole work.
+    Done,
+    Usage(UsageFault),
+    /// There is no such input.
+    OpenFault { input: u32 },
+    ReadFault { input: u32 },
+    /// A file or the text couldn't be written.
+    WriteFault,
+    InputRefused { track: u32, fault: TrackFault },
+    NoMemory,
+}
+
+impl Status {
+    /// The number with which the program ends.
+    pub fn code(&self) -> u8
+        ensures { result ≡ code_of self.now }
+    {
+        match self {
+            Status::Done => 0,
+            Status::Usage(_) => 2,
+            Status::OpenFault { .. } => 3,
+            Status::ReadFault { .. } => 4,
+            Status::WriteFault => 5,
+            Status::InputRefused { .. } => 6,
+            Status::NoMemory => 10,
+        }
+    }
+}
