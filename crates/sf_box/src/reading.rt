@@ -79,16 +79,17 @@ pub fn read_head(first: &[u8], at: u64, end: u64, top: bool) -> Result<BoxHead, 
     }
 }
 
-/// The head of the box that begins bytes which stand at a place and reach to the end of their holder.
-pub fn next_head(rest: &[u8], at: u64) -> Result<BoxHead, BoxFault>
+/// The head of the box that begins bytes which stand at a place and reach to the end of their holder,
+/// or of the file at the top.
+pub fn next_head(rest: &[u8], at: u64, top: bool) -> Result<BoxHead, BoxFault>
     requires some { 0 < length rest.now }
     requires place { at + length rest.now < 2 ^ 64 }
-    ensures head { result ≡ head_of false at rest.now }
+    ensures head { result ≡ head_of top at rest.now }
     ensures takes { IfOk result (λ h. Takes rest.now h) }
     ensures place { IfOk result (λ h. h.at ≡ at) }
 {
     let (first, _) = rest.split_at(rest.len().min(16));
-    read_head(first, at, at + rest.len() as u64, false)
+    read_head(first, at, at + rest.len() as u64, top)
 }
 
 // A fault of a box, told of its holder.
@@ -116,7 +117,7 @@ fn walk(alloc: Global, bytes: &[u8], base: u64) -> Result<WalkEnd, AllocError>
     let mut rest = bytes;
     let mut at = base;
     while !rest.is_empty() {
-        match next_head(rest, at) {
+        match next_head(rest, at, false) {
             Ok(head) => {
                 if heads.push(head).is_err() {
                     return Err(AllocError);
