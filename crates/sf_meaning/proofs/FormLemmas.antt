@@ -1,5 +1,5 @@
 -- Boxes that were written in the expected order are the expected ones.
-use Rattle.std.proofs.Common.{◌≡◌, ℕ, ◌+◌, ◌<◌, ◌==◌, true, false, List, [], ◌∷◌, ◌++◌, length, take, drop, Ok, refl, ◌∙◌, arith}
+use Rattle.std.proofs.Common.{◌≡◌, ℕ, ◌+◌, ◌<◌, ◌==◌, true, false, List, [], ◌∷◌, ◌++◌, length, take, drop, Ok, refl, arith}
 use Rattle.std.specs.List.{AllByRecursion}
 use Rattle.std.proofs.lemmas.Bool.{ne_eqb}
 use Rattle.std.specs.Str.{bytes_eq}
@@ -11,9 +11,7 @@ use Rattle.sf_box.specs.Parts.{Part, tiled, Fits}
 use Rattle.sf_box.proofs.Boxes.{head_of_box, box_body}
 use Rattle.sf_box.proofs.Numbers.{length-box_of}
 use Rattle.sf_meaning.specs.declared.faults.MovieFault.{MovieFault}
-use Rattle.sf_meaning.specs.Steps.{◌>>=◌, ◌>>◌, check}
 use Rattle.sf_meaning.specs.Form.{Expected, box_here, expected_box, nothing_left, in_order, holds}
-use Rattle.sf_meaning.specs.declared.faults.MovieFault.TheVariants as movies
 
 -- a part as a box at a place
 abbrev pub part_at : ℕ → Part → Piece

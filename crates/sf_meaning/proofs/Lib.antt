@@ -3,3 +3,8 @@ pub mod ContentLemmas
 pub mod Lists
 pub mod FormLemmas
 pub mod ReadBack
+pub mod EntryLemmas
+pub mod ListedSamples
+pub mod SampleLemmas
+pub mod Tracks
+pub mod WholeFile

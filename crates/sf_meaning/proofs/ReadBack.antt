@@ -19,7 +19,7 @@ use Rattle.sf_meaning.specs.declared.movie.PlainSample.{PlainSample}
 use Rattle.sf_meaning.specs.declared.movie.PlainTrack.{PlainTrack}
 use Rattle.sf_meaning.specs.declared.movie.PlainMovie.{PlainMovie}
 use Rattle.sf_meaning.specs.Tables.{running, count_in, sample_count, deltas_in, spreads_in, places_in, sizes_in, described, chunk_entries}
-use Rattle.sf_meaning.specs.Movie.{inside, timescale_in, own_files, references_in, references_of, kind_in, counted, spread_in_order, sizes_whole, descriptions_known, rows, samples_in, tables_in, held_in, table_in, track_in, tracks_in, movie_in, only_moov, movie, start_in}
+use Rattle.sf_meaning.specs.Movie.{inside, timescale_in, own_files, references_in, references_of, kind_in, counted, spread_in_order, sizes_whole, descriptions_known, rows, samples_said, samples_in, samples_held, times_table, chunks_table, sizes_table, places_table, tables_in, held_in, table_in, media_in, information_in, track_in, tracks_of, tracks_in, movie_in, only_moov, movie, start_in}
 use Rattle.sf_meaning.specs.Entry.{aac_entry}
 use Rattle.sf_meaning.specs.declared.faults.MovieFault.TheVariants as movies
 use Rattle.sf_meaning.specs.Form.{in_heads, in_tables, any_box, narrow_header, known_stsd, table_boxes, tables_form, stbl_form, dinf_form, minf_form, mdia_form, trak_form, udta_form, moov_form}
@@ -126,12 +126,12 @@ tables_of scale entry chunks w =
 abbrev pub listed : List Chunk → List PlainSample
 listed chunks = rows (sizes_of (samples_of chunks)) (running 0 (deltas_of (decodes_of (samples_of chunks)))) (sample_places 40 chunks) (replicate (length (samples_of chunks)) 1)
 
-samples_read : (scale : ℕ) (chunks : List Chunk) (h1 h2 h3 h4 : BoxHead) → Tables scale chunks
-    → samples_in scale 1 (record { head = h1; body = stts_body (deltas_of (decodes_of (samples_of chunks))) }) (record { head = h2; body = stsc_body (counts_of chunks) })
-    (record { head = h3; body = stsz_body (sizes_of (samples_of chunks)) }) (record { head = h4; body = stco_body (places_of chunks) })
+samples_read : (scale : ℕ) (chunks : List Chunk) (head_a head_b head_c head_d : BoxHead) → Tables scale chunks
+    → samples_in scale 1 (record { head = head_a; body = stts_body (deltas_of (decodes_of (samples_of chunks))) }) (record { head = head_b; body = stsc_body (counts_of chunks) })
+    (record { head = head_c; body = stsz_body (sizes_of (samples_of chunks)) }) (record { head = head_d; body = stco_body (places_of chunks) })
     ≡ Ok (listed chunks)
-unfolding samples_in
-samples_read scale chunks h1 h2 h3 h4 t =
+unfolding samples_in samples_said
+samples_read scale chunks head_a head_b head_c head_d t =
     let ds : List ℕ = deltas_of (decodes_of (samples_of chunks)) in
     let n : ℕ = length (samples_of chunks) in
     let sizes : List ℕ = sizes_of (samples_of chunks) in
@@ -151,7 +151,7 @@ samples_read scale chunks h1 h2 h3 h4 t =
     let named : described (chunk_entries (spread_from 1 0 counts) (length counts)) ≡ ones = back.described_as ∙ ap (λ (k : ℕ). replicate k 1) t.counts_sum in
     let ones_long : length ones ≤ n = omega (arith, length-replicate {A = ℕ} n 1) in
     let all : take n ones ≡ ones = take_all n ones ones_long in
-    rw (read_sizes, read_places, deltas, spreads_are counts t.counts, count, many, timed, whole, early, back.counts_are, held, named, all, known_first (record { head = h2; body = stsc_body counts }) n) refl
+    rw (read_sizes, read_places, deltas, spreads_are counts t.counts, count, many, timed, whole, early, back.counts_are, held, named, all, known_first (record { head = head_b; body = stsc_body counts }) n) refl
 
 -- the bodies of boxes that tile so few bytes are no longer
 kinds_fit : (ps : List Part) → AllByRecursion (λ p. length p.0 ≡ 4) ps → length (tiled ps) < 2 ^ 32 - 8 → AllByRecursion Fits ps
@@ -189,26 +189,27 @@ bounds_of scale entry chunks w =
       moov = kinds_fit (moov_parts scale entry chunks) (refl, (refl, (refl, tt))) (omega (arith, moov));
     }
 
-tables_read : (scale : ℕ) (stbl : Piece) (at : ℕ) (chunks : List Chunk) → Tables scale chunks → tables_in scale 1 stbl (laid at (stbl_parts aac_entry chunks)) ≡ Ok (listed chunks)
-unfolding tables_in
-tables_read scale stbl at chunks t =
+tables_read : (bytes number scale : ℕ) (stbl : Piece) (at : ℕ) (chunks : List Chunk) → Tables scale chunks → held_in bytes number 0 (listed chunks) ≡ Ok tt
+    → tables_in bytes number scale 1 stbl (laid at (stbl_parts aac_entry chunks)) ≡ Ok (listed chunks)
+unfolding tables_in times_table chunks_table sizes_table places_table samples_held
+tables_read bytes number scale stbl at chunks t held =
     let ds : List ℕ = deltas_of (decodes_of (samples_of chunks)) in
     let many : length ds < 2 ^ 32 = omega (arith, t.deltas_many, t.few) in
     let sizes : AllByRecursion (λ x. (0 < x) × Word x) (sizes_of (samples_of chunks)) = t.sizes in
     let few : length (sizes_of (samples_of chunks)) ≤ 16777216 = omega (arith, t.sizes_many, t.few) in
     let counts : Counts (counts_of chunks) = t.counts in
     let places : length (places_of chunks) < 2 ^ 32 = omega (arith, t.places_many, t.counts.few) in
-    rw (stts_read, stsc_read, stsz_read, stco_read, samples_read) refl
+    rw (stts_read, stsc_read, stsz_read, stco_read, samples_read, held) refl
 
 kind_read : (h : BoxHead) → kind_in (true ∷ []) (record { head = h; body = stsd_body aac_entry }) ≡ Ok Aac
 unfolding kind_in
 kind_read h = refl
 
-table_read : (scale : ℕ) (h : BoxHead) (chunks : List Chunk) → Tables scale chunks → InBounds scale aac_entry chunks
-    → table_in scale (true ∷ []) (record { head = h; body = tiled (stbl_parts aac_entry chunks) }) ≡ Ok (Aac, listed chunks)
+table_read : (bytes number scale : ℕ) (h : BoxHead) (chunks : List Chunk) → Tables scale chunks → InBounds scale aac_entry chunks → held_in bytes number 0 (listed chunks) ≡ Ok tt
+    → table_in bytes number scale (true ∷ []) (record { head = h; body = tiled (stbl_parts aac_entry chunks) }) ≡ Ok (Aac, listed chunks)
 unfolding table_in
-table_read scale h chunks t b =
-    rw (boxes_tiled false (h.at + h.head) (stbl_parts aac_entry chunks) b.stbl, kind_read) (rw (tables_read scale (record { head = h; body = tiled (stbl_parts aac_entry chunks) }) (h.at + h.head) chunks t) refl)
+table_read bytes number scale h chunks t b held =
+    rw (boxes_tiled false (h.at + h.head) (stbl_parts aac_entry chunks) b.stbl, kind_read) (rw (tables_read bytes number scale (record { head = h; body = tiled (stbl_parts aac_entry chunks) }) (h.at + h.head) chunks t held) refl)
 
 inside_read : (h : BoxHead) (ps : List Part) → AllByRecursion Fits ps → inside (record { head = h; body = tiled ps }) ≡ Ok (laid (h.at + h.head) ps)
 unfolding inside
@@ -290,7 +291,7 @@ read_track scale chunks = record { kind = Aac; scale = scale; lead = 0; media_ti
 track_read : (scale bytes number : ℕ) (h : BoxHead) (chunks : List Chunk) → Writable scale aac_entry chunks → Tables scale chunks → InBounds scale aac_entry chunks
     → 40 + length (stored_bytes (samples_of chunks)) ≤ bytes
     → track_in bytes number (record { head = h; body = tiled (trak_parts scale aac_entry chunks) }) ≡ Ok (read_track scale chunks)
-unfolding track_in
+unfolding track_in media_in information_in
 track_read scale bytes number h chunks w t b le =
     let trak : AllByRecursion Fits (trak_parts scale aac_entry chunks) = b.trak in
     let mdia : AllByRecursion Fits (mdia_parts scale aac_entry chunks) = b.mdia in
@@ -300,7 +301,7 @@ track_read scale bytes number h chunks w t b le =
     let held : held_in bytes number 0 (listed chunks) ≡ Ok tt =
     held_rows bytes number 0 (sizes_of (samples_of chunks)) (running 0 (deltas_of (decodes_of (samples_of chunks)))) (sample_places 40 chunks) (replicate (length (samples_of chunks)) 1)
     (within_chunks bytes 40 chunks le w.plain) in
-    rw (inside_read h (trak_parts scale aac_entry chunks) trak) (rw (inside_read, scale_read) (rw (inside_read, dinf_read, table_read, held) refl))
+    rw (inside_read h (trak_parts scale aac_entry chunks) trak) (rw (inside_read, scale_read) (rw (inside_read, dinf_read, table_read) refl))
 
 start_read : (h : BoxHead) (start_us : ℕ) → start_us < 2 ^ 64 → start_in (Some (record { head = h; body = tiled (in_udta start_us) })) ≡ start_us
 start_read h start_us lt =
@@ -322,7 +323,7 @@ tracks_read scale bytes h chunks w t b le = rw (track_read scale bytes 0 h chunk
 
 moov_read : (scale at bytes : ℕ) (chunks : List Chunk) → Writable scale aac_entry chunks → 40 + length (stored_bytes (samples_of chunks)) ≤ bytes
     → movie_in (tiled (moov_parts scale aac_entry chunks)) at bytes ≡ Ok (read_movie scale chunks)
-unfolding movie_in
+unfolding movie_in tracks_of
 moov_read scale at bytes chunks w le =
     let t : Tables scale chunks = tables_of scale aac_entry chunks w in
     let b : InBounds scale aac_entry chunks = bounds_of scale aac_entry chunks w in

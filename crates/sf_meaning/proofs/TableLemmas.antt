@@ -7,7 +7,7 @@ use Rattle.std.proofs.lemmas.Bool.{lt-ltb, ne_eqb}
 use Rattle.std.proofs.lemmas.Bool.Decides.{eqb_tells}
 use Rattle.sf_box.specs.Boxes.{be32, word32}
 use Rattle.sf_box.proofs.Numbers.{word32_of, drop_word, length-be32}
-use Rattle.sf_meaning.specs.Tables.{words, run_pairs, Spread, spreads, expand, running, spread_over, chunk_entries, described, rising, count_in, deltas_in, spreads_in, places_in, sample_count, sizes_in}
+use Rattle.sf_meaning.specs.Tables.{words, run_pairs, Spread, InChunk, in_chunk, spreads, expand, running, spread_over, chunk_entries, described, rising, count_in, deltas_in, spreads_in, places_in, sample_count, sizes_in}
 use Rattle.sf_meaning.specs.Layout.{zeros, in_front, runs_of, differences, uniform, spread_from, run_bytes, spread_bytes, stts_body, stsz_body, stsc_body, stco_body}
 use Rattle.sf_meaning.specs.Movie.{begins_rising}
 use Rattle.sf_meaning.specs.Writable.{Paced}
@@ -203,16 +203,20 @@ spread_words number last (c ∷ counts) le all =
     let more : AllByRecursion WordSpread (spread_from (number + 1) c counts) = spread_words (number + 1) c counts (omega arith) all.1 in
     elim (eqb_tells c last) [ inl p ↦ rw p.0 more | inr p ↦ rw p.0 ((omega arith, all.0, lit< tt), more) ]
 
-pub map-replicate : {X : Type 0} (f : X → ℕ) (n : ℕ) (x : X) → map f (replicate n x) ≡ replicate n (f x)
-map-replicate f zero x = refl
-map-replicate f (suc n) x = ap (λ (ys : List ℕ). f x ∷ ys) (map-replicate f n x)
+-- the counts of what holds in chunks
+abbrev pub pers : List InChunk → List ℕ
+pers cs = map (λ c. c.per) cs
+
+map-replicate_per : (n : ℕ) (c : InChunk) → pers (replicate n c) ≡ replicate n c.per
+map-replicate_per zero c = refl
+map-replicate_per (suc n) c = ap (λ (ys : List ℕ). c.per ∷ ys) (map-replicate_per n c)
 
 -- An entry holds for the chunks from its first up to those that differ.
 pub per_chunk_spread : (e : Spread) (number : ℕ) (counts : List ℕ) → 1 ≤ e.first → e.first ≤ number
-    → map (λ f. f.per) (spread_over (e ∷ spread_from number e.per counts) (number + length counts - 1)) ≡ replicate (number - e.first) e.per ++ counts
+    → pers (spread_over (e ∷ spread_from number e.per counts) (number + length counts - 1)) ≡ replicate (number - e.first) e.per ++ counts
 per_chunk_spread e number [] pos le =
     let k : (number + 0 - 1) + 1 - e.first ≡ number - e.first = omega arith in
-    rw append-nil (map-replicate (λ f. f.per) ((number + 0 - 1) + 1 - e.first) e ∙ ap (λ (n : ℕ). replicate n e.per) k)
+    rw append-nil (map-replicate_per ((number + 0 - 1) + 1 - e.first) (in_chunk e) ∙ ap (λ (n : ℕ). replicate n e.per) k)
 per_chunk_spread e number (c ∷ counts) pos le =
     let total : number + suc (length counts) - 1 ≡ (number + 1) + length counts - 1 = omega arith in
     elim (eqb_tells c e.per) [
@@ -223,15 +227,15 @@ per_chunk_spread e number (c ∷ counts) pos le =
       | inr p ↦
           let f : Spread = record { first = number; per = c; description = 1 } in
           let one : (number + 1) - number ≡ 1 = omega arith in
-          let rest : List Spread = spread_over (f ∷ spread_from (number + 1) c counts) ((number + 1) + length counts - 1) in
+          let rest : List InChunk = spread_over (f ∷ spread_from (number + 1) c counts) ((number + 1) + length counts - 1) in
           rw (p.0, total)
-          (map-append (λ (s : Spread). s.per) (replicate (number - e.first) e) rest
-          ∙ ap (λ (xs : List ℕ). xs ++ map (λ (s : Spread). s.per) rest) (map-replicate (λ (s : Spread). s.per) (number - e.first) e)
+          (map-append (λ (s : InChunk). s.per) (replicate (number - e.first) (in_chunk e)) rest
+          ∙ ap (λ (xs : List ℕ). xs ++ pers rest) (map-replicate_per (number - e.first) (in_chunk e))
           ∙ ap (λ (xs : List ℕ). replicate (number - e.first) e.per ++ xs) (per_chunk_spread f (number + 1) counts (omega arith) (omega arith) ∙ ap (λ (n : ℕ). replicate n c ++ counts) one))
     ]
 
 -- each chunk's count is read back
-pub per_chunk_back : (counts : List ℕ) → AllByRecursion (λ c. 0 < c) counts → map (λ f. f.per) (spread_over (spread_from 1 0 counts) (length counts)) ≡ counts
+pub per_chunk_back : (counts : List ℕ) → AllByRecursion (λ c. 0 < c) counts → pers (spread_over (spread_from 1 0 counts) (length counts)) ≡ counts
 per_chunk_back [] all = refl
 per_chunk_back (c ∷ counts) all =
     let other : (c == 0) ≡ false = ne_eqb c 0 (λ e. omega (arith, e, all.0)) in
@@ -239,9 +243,12 @@ per_chunk_back (c ∷ counts) all =
     let n : suc (length counts) ≡ (1 + 1) + length counts - 1 = omega arith in
     rw (other, n) (per_chunk_spread e (1 + 1) counts (omega arith) (omega arith))
 
--- an entry that names the first sample entry
-abbrev pub IsFirst : Spread → Type 0
-IsFirst e = e.description ≡ 1
+-- an entry, or a chunk, whose samples have the first sample entry
+abbrev pub NamesFirst : Spread → Type 0
+NamesFirst e = e.description ≡ 1
+
+abbrev pub HasFirst : InChunk → Type 0
+HasFirst c = c.description ≡ 1
 
 all-replicate : {X : Type 0} (P : X → Type 0) (n : ℕ) (x : X) → P x → AllByRecursion P (replicate n x)
 all-replicate P zero x p = tt
@@ -259,35 +266,36 @@ pub all_behind : {X : Type 0} (P : X → Type 0) (xs ys : List X) → AllByRecur
 all_behind P [] ys p = p
 all_behind P (x ∷ xs) ys p = all_behind P xs ys p.1
 
-first_over : (es : List Spread) (chunks : ℕ) → AllByRecursion IsFirst es → AllByRecursion IsFirst (spread_over es chunks)
+first_over : (es : List Spread) (chunks : ℕ) → AllByRecursion NamesFirst es → AllByRecursion HasFirst (spread_over es chunks)
 first_over [] chunks all = tt
-first_over (e ∷ []) chunks all = all-replicate IsFirst (chunks + 1 - e.first) e all.0
+first_over (e ∷ []) chunks all = all-replicate HasFirst (chunks + 1 - e.first) (in_chunk e) all.0
 first_over (e ∷ f ∷ es) chunks all =
-    all-append IsFirst (replicate (f.first - e.first) e) (spread_over (f ∷ es) chunks) (all-replicate IsFirst (f.first - e.first) e all.0) (first_over (f ∷ es) chunks all.1)
+    all-append HasFirst (replicate (f.first - e.first) (in_chunk e)) (spread_over (f ∷ es) chunks)
+    (all-replicate HasFirst (f.first - e.first) (in_chunk e) all.0) (first_over (f ∷ es) chunks all.1)
 
-first_from : (number last : ℕ) (counts : List ℕ) → AllByRecursion IsFirst (spread_from number last counts)
+first_from : (number last : ℕ) (counts : List ℕ) → AllByRecursion NamesFirst (spread_from number last counts)
 first_from number last [] = tt
 first_from number last (c ∷ counts) =
-    let more : AllByRecursion IsFirst (spread_from (number + 1) c counts) = first_from (number + 1) c counts in
+    let more : AllByRecursion NamesFirst (spread_from (number + 1) c counts) = first_from (number + 1) c counts in
     elim (eqb_tells c last) [ inl p ↦ rw p.0 more | inr p ↦ rw p.0 (refl, more) ]
 
--- what entries that name the first sample entry describe
-described_first : (es : List Spread) → AllByRecursion IsFirst es → described es ≡ replicate (sum (map (λ e. e.per) es)) 1
+-- what chunks describe whose samples have the first sample entry
+described_first : (cs : List InChunk) → AllByRecursion HasFirst cs → described cs ≡ replicate (sum (pers cs)) 1
 described_first [] all = refl
-described_first (e ∷ es) all =
-    let s : sum (e.per ∷ map (λ (e : Spread). e.per) es) ≡ e.per + sum (map (λ (e : Spread). e.per) es) = sum_by-cons (λ x. x) e.per (map (λ (e : Spread). e.per) es) in
-    rw (all.0, described_first es all.1, s) (replicate-append-replicate e.per (sum (map (λ (e : Spread). e.per) es)) 1)
+described_first (c ∷ cs) all =
+    let s : sum (c.per ∷ pers cs) ≡ c.per + sum (pers cs) = sum_by-cons (λ x. x) c.per (pers cs) in
+    rw (all.0, described_first cs all.1, s) (replicate-append-replicate c.per (sum (pers cs)) 1)
 
--- The entries of the chunks that are there, for these counts.
-pub record SpreadBack (counts : List ℕ) (es : List Spread) : Type 0 where
-  pub counts_are : map (λ e. e.per) es ≡ counts
-  pub described_as : described es ≡ replicate (sum counts) 1
+-- What holds in the chunks that are there, for these counts.
+pub record SpreadBack (counts : List ℕ) (cs : List InChunk) : Type 0 where
+  pub counts_are : pers cs ≡ counts
+  pub described_as : described cs ≡ replicate (sum counts) 1
 
 pub spread_back : (counts : List ℕ) → AllByRecursion (λ c. 0 < c) counts → SpreadBack counts (chunk_entries (spread_from 1 0 counts) (length counts))
 spread_back counts all =
-    let over : List Spread = spread_over (spread_from 1 0 counts) (length counts) in
-    let per : map (λ (e : Spread). e.per) over ≡ counts = per_chunk_back counts all in
-    let long : length over ≤ length counts = omega (arith, length-map over (λ (e : Spread). e.per), ap length per) in
+    let over : List InChunk = spread_over (spread_from 1 0 counts) (length counts) in
+    let per : pers over ≡ counts = per_chunk_back counts all in
+    let long : length over ≤ length counts = omega (arith, length-map over (λ (c : InChunk). c.per), ap length per) in
     let whole : take (length counts) over ≡ over = take_all (length counts) over long in
     record {
       counts_are = rw whole per;

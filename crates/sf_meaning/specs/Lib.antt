@@ -1,4 +1,5 @@
 pub mod Reads
+pub mod Entries
 pub mod Steps
 pub mod Entry
 pub mod Form

@@ -4,7 +4,7 @@ use Rattle.sf_box.specs.Parts.{child_piece}
 use Rattle.sf_box.specs.Boxes.{Piece, boxes, leading, word32, word64}
 use Rattle.sf_meaning.specs.Steps.{◌>>=◌, ◌>>◌, check, needed, as_fault, of_kind, first_of, body_at, four}
 use Rattle.sf_meaning.specs.Form.{known_stsd, moov_form}
-use Rattle.sf_meaning.specs.Tables.{Spread, running, chunk_entries, placed, described, rising, count_in, deltas_in, spreads_in, places_in, sample_count, sizes_in}
+use Rattle.sf_meaning.specs.Tables.{Spread, InChunk, running, chunk_entries, placed, described, rising, count_in, deltas_in, spreads_in, places_in, sample_count, sizes_in}
 use Rattle.sf_meaning.specs.declared.faults.HeadFault.TheVariants as heads
 use Rattle.sf_meaning.specs.declared.faults.TableFault.TheVariants as tables
 use Rattle.sf_meaning.specs.declared.faults.MovieFault.{MovieFault}
@@ -133,63 +133,121 @@ rows (size ∷ sizes) (d ∷ decodes) (p ∷ places) [] = []
 rows (size ∷ sizes) (d ∷ decodes) (p ∷ places) (e ∷ descriptions) =
     record { decode = d; compose = pos d; sync = true; place = p; size = size; description = e } ∷ rows sizes decodes places descriptions
 
--- The samples that the tables of a track say (8.6.1.2, 8.7.3 to 8.7.5), or the first thing that is wrong with the tables.
-unfoldable pub samples_in : ℕ → ℕ → Piece → Piece → Piece → Piece → Step (List PlainSample)
-samples_in scale entries stts stsc stsz stco = do
-  let n = sample_count stsz.body
-  let deltas = deltas_in stts.body
-  let spread = chunk_entries (spreads_in stsc.body) (count_in stco.body)
+-- The deltas, and what holds in the chunks, say so many samples; or the first thing that is wrong with them.
+unfoldable pub samples_said : ℕ → ℕ → ℕ → Piece → Piece → List ℕ → List InChunk → Step (Unit {0})
+samples_said scale entries n stts stsc deltas chunks = do
   check (nat_le n (length deltas)) (short_table stts)
   check (nat_le (sum (take n deltas)) (2 ^ 40 * scale)) (movies.Table (tables.SumTooLarge stts.head.at))
-  check (nat_le n (sum (map (λ e. e.per) spread))) (short_table stsc)
-  descriptions_known stsc entries (take n (described spread))
-  Ok (rows (sizes_in stsz.body) (running 0 deltas) (placed (places_in stco.body) (map (λ e. e.per) spread) (sizes_in stsz.body)) (described spread))
+  check (nat_le n (sum (map (λ c. c.per) chunks))) (short_table stsc)
+  descriptions_known stsc entries (take n (described chunks))
 
--- the samples of a sample table box (8.5.1)
-unfoldable pub tables_in : ℕ → ℕ → Piece → List Piece → Step (List PlainSample)
-tables_in scale entries stbl ps = do
-  stts ← needed_table stbl (codes "stts") ps
-  counted 8 stts
-  stsc ← needed_table stbl (codes "stsc") ps
-  spread_in_order stsc
-  stsz ← needed_table stbl (codes "stsz") ps
-  sizes_whole stsz
-  stco ← needed_table stbl (codes "stco") ps
-  counted 4 stco
-  samples_in scale entries stts stsc stsz stco
+-- The samples that the tables of a track say (8.6.1.2, 8.7.3 to 8.7.5), or the first thing that is wrong with them.
+unfoldable pub samples_in : ℕ → ℕ → Piece → Piece → Piece → Piece → Step (List PlainSample)
+samples_in scale entries stts stsc stsz stco = do
+  let deltas = deltas_in stts.body
+  let chunks = chunk_entries (spreads_in stsc.body) (count_in stco.body)
+  samples_said scale entries (sample_count stsz.body) stts stsc deltas chunks
+  Ok (rows (sizes_in stsz.body) (running 0 deltas) (placed (places_in stco.body) (map (λ c. c.per) chunks) (sizes_in stsz.body)) (described chunks))
 
--- Each sample lies in the file, which has so many bytes, and none is too long. Samples count from i.
+-- A sample lies in the file, which has so many bytes, and isn't too long.
+abbrev pub held_sample : ℕ → ℕ → ℕ → PlainSample → Step PlainSample
+held_sample bytes track i s = do
+  check (nat_le (s.place + s.size) bytes) (movies.SampleOutside track i)
+  check (nat_le s.size 67108864) (movies.SampleTooLarge track i s.size)
+  Ok s
+
+-- So does each of these, which count from i.
 abbrev pub held_in : ℕ → ℕ → ℕ → List PlainSample → Step (Unit {0})
 held_in bytes track i [] = Ok tt
 held_in bytes track i (s ∷ ss) = do
-  check (nat_le (s.place + s.size) bytes) (movies.SampleOutside track i)
-  check (nat_le s.size 67108864) (movies.SampleTooLarge track i s.size)
+  held_sample bytes track i s
   held_in bytes track (i + 1) ss
 
+-- the samples, which a file of so many bytes holds
+abbrev pub held_samples : ℕ → ℕ → List PlainSample → Step (List PlainSample)
+held_samples bytes number samples = do
+  held_in bytes number 0 samples
+  Ok samples
+
+-- the samples that these tables say, of a track of a file of so many bytes
+unfoldable pub samples_held : ℕ → ℕ → ℕ → ℕ → Piece → Piece → Piece → Piece → Step (List PlainSample)
+samples_held bytes number scale entries stts stsc stsz stco = do
+  samples ← samples_in scale entries stts stsc stsz stco
+  held_samples bytes number samples
+
+-- the tables of a sample table box, each of them whole
+unfoldable pub times_table : Piece → List Piece → Step Piece
+times_table stbl ps = do
+  stts ← needed_table stbl (codes "stts") ps
+  counted 8 stts
+  Ok stts
+
+unfoldable pub chunks_table : Piece → List Piece → Step Piece
+chunks_table stbl ps = do
+  stsc ← needed_table stbl (codes "stsc") ps
+  spread_in_order stsc
+  Ok stsc
+
+unfoldable pub sizes_table : Piece → List Piece → Step Piece
+sizes_table stbl ps = do
+  stsz ← needed_table stbl (codes "stsz") ps
+  sizes_whole stsz
+  Ok stsz
+
+unfoldable pub places_table : Piece → List Piece → Step Piece
+places_table stbl ps = do
+  stco ← needed_table stbl (codes "stco") ps
+  counted 4 stco
+  Ok stco
+
+-- the samples of a sample table box (8.5.1), of a track of a file of so many bytes
+unfoldable pub tables_in : ℕ → ℕ → ℕ → ℕ → Piece → List Piece → Step (List PlainSample)
+tables_in bytes number scale entries stbl ps = do
+  stts ← times_table stbl ps
+  stsc ← chunks_table stbl ps
+  stsz ← sizes_table stbl ps
+  stco ← places_table stbl ps
+  samples_held bytes number scale entries stts stsc stsz stco
+
+-- the boxes inside a sample table box
+abbrev pub in_table : Piece → Step (List Piece)
+in_table stbl = as_fault (λ f. movies.Table (tables.Tiling f)) (boxes false (body_at stbl) stbl.body)
+
 -- what a sample table box says of the track's kind and its samples
-unfoldable pub table_in : ℕ → List Bool → Piece → Step (TrackKind × List PlainSample)
-table_in scale references stbl = do
-  ps ← as_fault (λ f. movies.Table (tables.Tiling f)) (boxes false (body_at stbl) stbl.body)
+unfoldable pub table_in : ℕ → ℕ → ℕ → List Bool → Piece → Step (TrackKind × List PlainSample)
+table_in bytes number scale references stbl = do
+  ps ← in_table stbl
   stsd ← needed_table stbl (codes "stsd") ps
   kind ← kind_in references stsd
-  samples ← tables_in scale 1 stbl ps
+  samples ← tables_in bytes number scale 1 stbl ps
   Ok (kind, samples)
 
--- a track (8.3.1), of a file of so many bytes
-unfoldable pub track_in : ℕ → ℕ → Piece → Step PlainTrack
-track_in bytes number trak = do
+-- ticks a second of a track's media (8.4), and the box with what they mean
+unfoldable pub media_in : Piece → Step (ℕ × Piece)
+media_in trak = do
   in_trak ← inside trak
   mdia ← needed_head trak (codes "mdia") in_trak
   in_mdia ← inside mdia
   mdhd ← needed_head mdia (codes "mdhd") in_mdia
   scale ← timescale_in mdhd
   minf ← needed_head mdia (codes "minf") in_mdia
+  Ok (scale, minf)
+
+-- whether each data reference of a media information box (8.4.4) names this very file, and its sample table box
+unfoldable pub information_in : Piece → Step (List Bool × Piece)
+information_in minf = do
   in_minf ← inside minf
   references ← references_of (child_piece in_minf (codes "dinf"))
   stbl ← needed_head minf (codes "stbl") in_minf
-  table ← table_in scale references stbl
-  held_in bytes number 0 table.1
-  Ok (record { kind = table.0; scale = scale; lead = 0; media_time = 0; samples = table.1 })
+  Ok (references, stbl)
+
+-- a track (8.3.1), of a file of so many bytes
+unfoldable pub track_in : ℕ → ℕ → Piece → Step PlainTrack
+track_in bytes number trak = do
+  media ← media_in trak
+  information ← information_in media.1
+  table ← table_in bytes number media.0 information.0 information.1
+  Ok (record { kind = table.0; scale = media.0; lead = 0; media_time = 0; samples = table.1 })
 
 -- the tracks in order, counted from a number
 unfoldable pub tracks_in : ℕ → ℕ → List Piece → Step (List PlainTrack)
@@ -204,16 +262,36 @@ abbrev pub none_of : Option Piece → (Piece → MovieFault) → Step (Unit {0})
 none_of None f = Ok tt
 none_of (Some p) f = Err (f p)
 
+-- a movie box isn't compressed, and has not too many tracks
+abbrev pub not_compressed : List Piece → Step (Unit {0})
+not_compressed ps = none_of (child_piece ps (codes "cmov")) (λ p. movies.Compressed p.head.at)
+
+abbrev pub few_tracks : List Piece → Step (Unit {0})
+few_tracks traks = none_of (first_of (drop 64 traks)) (λ p. movies.TooManyTracks p.head.at)
+
+-- the tracks among the boxes of a movie box
+unfoldable pub tracks_of : List Piece → Step (List Piece)
+tracks_of ps = do
+  not_compressed ps
+  few_tracks (of_kind (codes "trak") ps)
+  Ok (of_kind (codes "trak") ps)
+
+-- the boxes inside a movie box whose body begins at a place, and its header
+abbrev pub in_moov : List ℕ → ℕ → Step (List Piece)
+in_moov body at = as_fault movies.Tiling (boxes false at body)
+
+abbrev pub movie_header : List Piece → ℕ → Step Piece
+movie_header ps at = needed (child_piece ps (codes "mvhd")) (movies.Head (heads.Missing (four (codes "mvhd")) at))
+
 -- The movie that the body of a movie box is (8.2.1), of a file of so many bytes.
 unfoldable pub movie_in : List ℕ → ℕ → ℕ → Step PlainMovie
 movie_in body at bytes = do
   moov_form body at
-  ps ← as_fault movies.Tiling (boxes false at body)
-  none_of (child_piece ps (codes "cmov")) (λ p. movies.Compressed p.head.at)
-  none_of (first_of (drop 64 (of_kind (codes "trak") ps))) (λ p. movies.TooManyTracks p.head.at)
-  mvhd ← needed (child_piece ps (codes "mvhd")) (movies.Head (heads.Missing (four (codes "mvhd")) at))
+  ps ← in_moov body at
+  traks ← tracks_of ps
+  mvhd ← movie_header ps at
   scale ← timescale_in mvhd
-  tracks ← tracks_in bytes 0 (of_kind (codes "trak") ps)
+  tracks ← tracks_in bytes 0 traks
   Ok (record { scale = scale; start_us = start_in (child_piece ps (codes "udta")); tracks = tracks })
 
 -- the only movie box among the boxes of a file of so many bytes
@@ -224,9 +302,13 @@ only_moov bytes (moov ∷ []) = do
   check (nat_le moov.head.size 268435456) (movies.MoovTooLarge moov.head.at moov.head.size)
   Ok moov
 
+-- the boxes of a file
+abbrev pub top_boxes : List ℕ → Step (List Piece)
+top_boxes file = as_fault movies.Tiling (boxes true 0 file)
+
 -- The movie that a file's bytes are, or the first thing that is wrong with them.
 unfoldable pub movie : List ℕ → Step PlainMovie
 movie file = do
-  ps ← as_fault movies.Tiling (boxes true 0 file)
+  ps ← top_boxes file
   moov ← only_moov (length file) (of_kind (codes "moov") ps)
   movie_in moov.body (body_at moov) (length file)

@@ -32,14 +32,22 @@ abbrev pub running : ℕ → List ℕ → List ℕ
 running t [] = []
 running t (x ∷ xs) = t ∷ running (t + x) xs
 
--- the entry of each chunk: an entry holds up to the chunk before the next entry's first
-abbrev pub spread_over : List Spread → ℕ → List Spread
-spread_over [] chunks = []
-spread_over (e ∷ []) chunks = replicate (chunks + 1 - e.first) e
-spread_over (e ∷ f ∷ es) chunks = replicate (f.first - e.first) e ++ spread_over (f ∷ es) chunks
+-- What holds in a chunk: how many samples it has, and their description.
+pub record InChunk : Type 0 where
+  pub per : ℕ
+  pub description : ℕ
 
--- the entry of each chunk that is there
-abbrev pub chunk_entries : List Spread → ℕ → List Spread
+abbrev pub in_chunk : Spread → InChunk
+in_chunk e = record { per = e.per; description = e.description }
+
+-- what holds in each chunk: an entry holds up to the chunk before the next entry's first
+abbrev pub spread_over : List Spread → ℕ → List InChunk
+spread_over [] chunks = []
+spread_over (e ∷ []) chunks = replicate (chunks + 1 - e.first) (in_chunk e)
+spread_over (e ∷ f ∷ es) chunks = replicate (f.first - e.first) (in_chunk e) ++ spread_over (f ∷ es) chunks
+
+-- what holds in each chunk that is there
+abbrev pub chunk_entries : List Spread → ℕ → List InChunk
 chunk_entries es chunks = take chunks (spread_over es chunks)
 
 -- the place of each sample, from the chunks' places and counts and the samples' sizes
@@ -49,7 +57,7 @@ placed (place ∷ places) [] sizes = []
 placed (place ∷ places) (count ∷ counts) sizes = running place (take count sizes) ++ placed places counts (drop count sizes)
 
 -- the description of each sample
-abbrev pub described : List Spread → List ℕ
+abbrev pub described : List InChunk → List ℕ
 described es = flat_map (λ e. replicate e.per e.description) es
 
 -- whether each number is above the one before, the first above t

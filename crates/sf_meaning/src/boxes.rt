@@ -1,15 +1,16 @@
-ghost use Rattle.std.specs.Prelude.{◌≡◌, ℕ, ◌+◌, ◌^◌, ◌<◌, length, map, Result, Ok, Err};
+ghost use Rattle.std.specs.Prelude.{◌≡◌, ℕ, ◌+◌, ◌^◌, ◌<◌, length, map, IfOk, Result, Ok, Err};
 ghost use Rattle.sf_box.specs.Parts.{child_piece};
 ghost use Rattle.sf_box.specs.Reading.{Within, piece_at};
 ghost use Rattle.sf_meaning.specs.Reads.{piece, pieces, maybe_piece, Gives, GivesBoxes};
-ghost use Rattle.sf_meaning.specs.Movie.{inside, needed_head, needed_table};
+ghost use Rattle.sf_meaning.specs.Steps.{of_kind};
+ghost use Rattle.sf_meaning.specs.Movie.{inside, in_table, needed_head, needed_table};
 
 use crate::faults::{HeadFault, MovieFault, TableFault};
 use crate::found::Found;
 use crate::stop::Stop;
 use sf_box::{BoxFault, BoxHead, ChildrenFault, FourCc, body, children};
 use sf_list::Items;
-use std::alloc::Global;
+use std::alloc::{AllocError, Global};
 
 // The box of a head that lies within bytes.
 fn found<'a>(bytes: &'a [u8], at: u64, head: BoxHead) -> Found<'a>
@@ -71,6 +72,22 @@ pub(crate) fn inside<'a>(alloc: Global, holder: Found<'a>) -> Result<Items<Found
     }
 }
 
+/// The boxes inside a sample table box (8.5.1).
+pub(crate) fn in_table<'a>(alloc: Global, stbl: Found<'a>) -> Result<Items<Found<'a>>, Stop>
+    ensures { Gives pieces result (in_table (piece stbl.entry)) }
+{
+    match boxes_in(alloc, stbl.body, stbl.head.at + stbl.head.head) {
+        Ok(boxes) => Ok(boxes),
+        Err(ChildrenFault::Short { at }) => Err(Stop::Fault(MovieFault::Table(TableFault::Tiling(
+            BoxFault::Short { at },
+        )))),
+        Err(ChildrenFault::Overrun { at, size }) => Err(Stop::Fault(MovieFault::Table(
+            TableFault::Tiling(BoxFault::Overrun { at, size }),
+        ))),
+        Err(ChildrenFault::NoMemory) => Err(Stop::NoMemory),
+    }
+}
+
 /// The first box of a type, which the headers need in this holder.
 pub(crate) fn needed_head<'a>(
     holder: Found<'a>,
@@ -103,4 +120,21 @@ pub(crate) fn needed_table<'a>(
             at: stbl.head.at + stbl.head.head,
         }))),
     }
+}
+
+/// The boxes of a type, in order.
+pub(crate) fn of_kind<'a>(
+    alloc: Global,
+    boxes: &[Found<'a>],
+    kind: FourCc,
+) -> Result<Vec<Found<'a>>, AllocError>
+    ensures { IfOk result (λ found. pieces found.items ≡ of_kind kind.0 (pieces boxes.now)) }
+{
+    let mut all = Vec::new(alloc);
+    for found in boxes {
+        if found.head.kind == kind {
+            all.push(*found)?;
+        }
+    }
+    Ok(all)
 }

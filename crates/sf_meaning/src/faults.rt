@@ -61,4 +61,5 @@ pub enum MovieFault {
     SampleTooLarge { track: u32, sample: u64, size: u32 },
     /// A box that is read only later; `at` is its place.
     NotYet { at: u64 },
+    NoMemory,
 }

@@ -64,7 +64,7 @@ fn box_here<'a>(level: Level, rest: Rest<'a>) -> Result<Found<'a>, Stop>
     ensures found { Gives piece result (box_here (tiling_at level) rest.entry.at rest.entry.bytes.now) }
     ensures within { IfOk result (λ f. f.head.size ≤ length rest.entry.bytes.now) }
 {
-    match next_head(rest.bytes, rest.at) {
+    match next_head(rest.bytes, rest.at, false) {
         Ok(head) => {
             let (whole, _) = rest.bytes.split_at(head.size as usize);
             let (_, body) = whole.split_at(head.head as usize);

@@ -25,3 +25,12 @@ pub(crate) enum Level {
     Heads,
     Tables,
 }
+
+/// The tables of a track that say where and when its samples are.
+#[derive(Clone, Copy)]
+pub(crate) struct TableBoxes<'a> {
+    pub stts: Found<'a>,
+    pub stsc: Found<'a>,
+    pub stsz: Found<'a>,
+    pub stco: Found<'a>,
+}

@@ -2,8 +2,9 @@
 //!
 //! `specs/Movie.antt` says which movie a file's bytes are, or the first thing that is wrong with
 //! them; `specs/Joined.antt` says which samples a series of files holds; `specs/Layout.antt` says
-//! which bytes the writer gives a file. None of them knows of the others' code: that a file that
-//! was laid out is read back is a law, which `layout_is_read_back` states.
+//! which bytes the writer gives a file. That a file that was laid out is read back is a law, which
+//! `layout_is_read_back` states. `plain_movie` and `plain_file` are the plain programs that compute
+//! the first of them: clear before fast, and linear in samples and boxes.
 #![tactic(auto)]
 
 ghost use Rattle.std.specs.Prelude.{◌≡◌, ℕ, List, [], ◌∷◌, map, Some, Ok};
@@ -14,15 +15,24 @@ ghost use Rattle.sf_meaning.specs.Entry.{aac_entry};
 ghost use Rattle.sf_meaning.specs.Writable.{Writable};
 
 mod boxes;
+mod chunks;
+mod entries;
 mod faults;
 mod form;
 mod found;
 mod headers;
+mod listing;
 mod movie;
+mod plain;
+mod samples;
 mod stop;
+mod tables;
+mod whole;
 
 pub use faults::{EntryFault, HeadFault, MovieFault, TableFault};
 pub use movie::{PlainMovie, PlainSample, PlainTrack, TrackKind};
+pub use plain::plain_movie;
+pub use whole::plain_file;
 
 /// The law of written files: the samples of a file that was laid out are those of its chunks, each
 /// once, in order, with their bytes, their sync flags and their times.
@@ -30,3 +40,6 @@ pub fn layout_is_read_back()
     ensures { (scale : ℕ) (chunks : List Chunk) → Writable scale aac_entry chunks
         → joined (layout scale aac_entry chunks ∷ []) 0 ≡ Some (map held_as (samples_of chunks)) }
 {}
+
+#[cfg(test)]
+mod tests;

@@ -1,4 +1,4 @@
-use Rattle.std.proofs.Common.{◌≡◌, ◌≤◌, take, length}
+use Rattle.std.proofs.Common.{◌≡◌, take}
 use Rattle.sf_box.specs.Reading.{pieces_at}
 use Rattle.sf_meaning.specs.Reads.{pieces}
 use Rattle.sf_meaning.proofs.boxes.boxes_in.Given as goal

@@ -1,0 +1,105 @@
+-- Entries that are read one after the other.
+use Rattle.std.proofs.Common.{◌≡◌, ℕ, zero, suc, ◌+◌, ◌-◌, ◌*◌, ◌<◌, ◌≤◌, List, [], ◌∷◌, ◌++◌, take, drop, map, Bool, true, false, ◌&&◌, ◌==◌, ltb, refl, sym, ap, ◌∙◌, append_assoc, arith}
+use Rattle.std.proofs.lemmas.List.{drop-drop}
+use Rattle.sf_box.specs.Boxes.{word32}
+use Rattle.std.proofs.lemmas.Bool.{eqb-true, ltb-true, lt-ltb}
+use Rattle.sf_meaning.specs.Entries.{spread_of, spreads_as, from_chunk, firsts}
+use Rattle.sf_meaning.specs.Movie.{begins_rising}
+use Rattle.sf_meaning.specs.Tables.{run_pairs, Spread, spreads, words, rising, spread_over, chunk_entries}
+use Rattle.sf_meaning.specs.declared.entries.ChunkRun.{ChunkRun}
+
+-- one more in front of the rest
+pub pushed_step : {A : Type 0} (xs : List A) (x : A) (rest tail all : List A) → xs ++ tail ≡ all → tail ≡ x ∷ rest → (xs ++ x ∷ []) ++ rest ≡ all
+pushed_step xs x rest tail all h e = append_assoc xs (x ∷ []) rest ∙ ap (λ t. xs ++ t) (sym e) ∙ h
+
+pub run_step : (table : List ℕ) (n i : ℕ) → i < n
+    → run_pairs (n - i) (drop (8 + 8 * i) table) ≡ (word32 (drop (8 + 8 * i) table), word32 (drop (12 + 8 * i) table)) ∷ run_pairs (n - (i + 1)) (drop (8 + 8 * (i + 1)) table)
+run_step table n i lt =
+    let k : n - i ≡ suc (n - (i + 1)) = omega arith in
+    let second : (8 + 8 * i) + 4 ≡ 12 + 8 * i = omega arith in
+    let next : (8 + 8 * i) + 8 ≡ 8 + 8 * (i + 1) = omega arith in
+    rw (k, drop-drop 4 (8 + 8 * i) table, drop-drop 8 (8 + 8 * i) table, second, next) refl
+
+pub spread_step : (table : List ℕ) (n i : ℕ) → i < n
+    → spreads (n - i) (drop (8 + 12 * i) table)
+    ≡ record { first = word32 (drop (8 + 12 * i) table); per = word32 (drop (12 + 12 * i) table); description = word32 (drop (16 + 12 * i) table) } ∷ spreads (n - (i + 1)) (drop (8 + 12 * (i + 1)) table)
+spread_step table n i lt =
+    let k : n - i ≡ suc (n - (i + 1)) = omega arith in
+    let second : (8 + 12 * i) + 4 ≡ 12 + 12 * i = omega arith in
+    let third : (8 + 12 * i) + 8 ≡ 16 + 12 * i = omega arith in
+    let next : (8 + 12 * i) + 12 ≡ 8 + 12 * (i + 1) = omega arith in
+    rw (k, drop-drop 4 (8 + 12 * i) table, drop-drop 8 (8 + 12 * i) table, drop-drop 12 (8 + 12 * i) table, second, third, next) refl
+
+-- numbers that stand one after the other from a place on
+pub word_step : (from : ℕ) (table : List ℕ) (n i : ℕ) → i < n
+    → words (n - i) (drop (from + 4 * i) table) ≡ word32 (drop (from + 4 * i) table) ∷ words (n - (i + 1)) (drop (from + 4 * (i + 1)) table)
+word_step from table n i lt =
+    let k : n - i ≡ suc (n - (i + 1)) = omega arith in
+    let next : (from + 4 * i) + 4 ≡ from + 4 * (i + 1) = omega arith in
+    rw (k, drop-drop 4 (from + 4 * i) table, next) refl
+
+both_true : (a b : Bool) → (a && b) ≡ true → (a ≡ true) × (b ≡ true)
+both_true true true e = (refl, refl)
+both_true true false e = absurd (cc e)
+both_true false b e = absurd (cc e)
+
+firsts_as : (runs : List ChunkRun) → map (λ f. f.first) (spreads_as runs) ≡ firsts runs
+firsts_as [] = refl
+firsts_as (r ∷ runs) = ap (λ (xs : List ℕ). r.first ∷ xs) (firsts_as runs)
+
+rising_lower : (s t : ℕ) (xs : List ℕ) → s ≤ t → rising t xs ≡ true → rising s xs ≡ true
+rising_lower s t [] le e = refl
+rising_lower s t (x ∷ xs) le e =
+    let p : (ltb t x ≡ true) × (rising x xs ≡ true) = both_true (ltb t x) (rising x xs) e in
+    let above : t < x = ltb-true t x p.0 in
+    let lower : ltb s x ≡ true = lt-ltb s x (omega arith) in
+    rw (lower, p.1) refl
+
+-- the entry that holds for a chunk holds in it, and the others in those behind it
+pub chunk_step : (r : ChunkRun) (behind : List ChunkRun) (i chunks : ℕ) → i < chunks → rising (i + 1) (firsts behind) ≡ true
+    → take (chunks - i) (spread_over (from_chunk (i + 1) r ∷ spreads_as behind) chunks)
+    ≡ record { per = r.per; description = r.description } ∷ take (chunks - (i + 1)) (spread_over (from_chunk (i + 1 + 1) r ∷ spreads_as behind) chunks)
+chunk_step r [] i chunks lt up =
+    let k : chunks - i ≡ suc (chunks - (i + 1)) = omega arith in
+    let n : chunks + 1 - (i + 1) ≡ suc (chunks + 1 - (i + 1 + 1)) = omega arith in
+    rw (k, n) refl
+chunk_step r (f ∷ fs) i chunks lt up =
+    let p : (ltb (i + 1) f.first ≡ true) × (rising f.first (firsts fs) ≡ true) = both_true (ltb (i + 1) f.first) (rising f.first (firsts fs)) up in
+    let above : i + 1 < f.first = ltb-true (i + 1) f.first p.0 in
+    let k : chunks - i ≡ suc (chunks - (i + 1)) = omega arith in
+    let n : f.first - (i + 1) ≡ suc (f.first - (i + 1 + 1)) = omega arith in
+    rw (k, n) refl
+
+-- What the entries say of the chunks from the first one on.
+pub record Begins (runs : List ChunkRun) (first : ChunkRun) (others : List ChunkRun) (count : ℕ) : Type 0 where
+  pub held : take (count - 0) (spread_over (from_chunk (0 + 1) first ∷ spreads_as others) count) ≡ chunk_entries (spreads_as runs) count
+  pub up : rising 0 (firsts others) ≡ true
+
+pub begins : (runs : List ChunkRun) (first : ChunkRun) (others : List ChunkRun) (count : ℕ) → runs ≡ first ∷ others → begins_rising (spreads_as runs) ≡ true → Begins runs first others count
+begins runs first others count e up =
+    let at : begins_rising (spreads_as (first ∷ others)) ≡ true = sym (ap (λ (rs : List ChunkRun). begins_rising (spreads_as rs)) e) ∙ up in
+    let p : ((first.first == 1) ≡ true) × (rising 1 (map (λ f. f.first) (spreads_as others)) ≡ true) =
+    both_true (first.first == 1) (rising 1 (map (λ f. f.first) (spreads_as others))) at in
+    let one : first.first ≡ 1 = eqb-true first.first 1 p.0 in
+    let none : count - 0 ≡ count = omega arith in
+    let same : from_chunk (0 + 1) first ≡ spread_of first = ap (λ (n : ℕ). record { first = n; per = first.per; description = first.description }) (sym one) in
+    let up1 : rising 1 (firsts others) ≡ true = rw (← firsts_as others) (p.1) in
+    record {
+      held = rw (e, none) (ap (λ (x : Spread). take count (spread_over (x ∷ spreads_as others) count)) same);
+      up = rising_lower 0 1 (firsts others) (omega arith) up1;
+    }
+
+-- the numbers behind the first ones
+drop_words : (i n : ℕ) (bytes : List ℕ) → i ≤ n → drop i (words n bytes) ≡ words (n - i) (drop (4 * i) bytes)
+drop_words zero n bytes le = let k : n - 0 ≡ n = omega arith in rw k refl
+drop_words (suc i) zero bytes le = absurd (omega (arith, le))
+drop_words (suc i) (suc n) bytes le =
+    let k : suc n - suc i ≡ n - i = omega arith in
+    let m : 4 + 4 * i ≡ 4 * suc i = omega arith in
+    rw (drop_words i n (drop 4 bytes) (omega (arith, le)), drop-drop (4 * i) 4 bytes, m, k) refl
+
+-- the number at a place of those that stand behind twelve bytes
+pub word_at : (table : List ℕ) (n i : ℕ) → i < n → drop i (words n (drop 12 table)) ≡ word32 (drop (12 + 4 * i) table) ∷ drop (i + 1) (words n (drop 12 table))
+word_at table n i lt =
+    drop_words i n (drop 12 table) (omega (arith, lt))
+    ∙ rw (drop-drop (4 * i) 12 table, word_step 12 table n i lt, drop_words (i + 1) n (drop 12 table) (omega (arith, lt)), drop-drop (4 * (i + 1)) 12 table) refl
