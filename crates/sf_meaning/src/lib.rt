@@ -32,6 +32,7 @@ mod whole;
 pub use faults::{EntryFault, HeadFault, MovieFault, TableFault};
 pub use movie::{PlainMovie, PlainSample, PlainTrack, TrackKind};
 pub use plain::plain_movie;
+pub use sf_tick::{Chunk, Kind, Sample, Samples, Setup, Stored, to_tick, to_us};
 pub use whole::plain_file;
 
 /// The law of written files: the samples of a file that was laid out are those of its chunks, each
