@@ -1,0 +1,4 @@
+pub mod CodedFile
+pub mod Steps
+pub mod Progress
+pub mod Window

@@ -1,0 +1,131 @@
+ghost use Rattle.std.specs.Prelude.{◌≡◌, ℕ, ◌+◌, ◌-◌, ◌^◌, ◌≤◌, ◌<◌, min, length, take, drop, OnOk, IfOk, IfErr};
+ghost use Rattle.sf_world.specs.Contents.{HasLength};
+ghost use Rattle.sf_world.specs.Counts.{HasCause};
+ghost use Rattle.sf_coded.specs.Window.{Window, Covers, AreFrom};
+
+use sf_world::{Failed, Source};
+use std::alloc::{AllocError, Global};
+use std::marker::Model;
+
+/// How many bytes a block has.
+const BLOCK: usize = 65_536;
+
+/// So many bytes, to be read into.
+pub fn zeros(alloc: Global, len: usize) -> Result<Vec<u8>, AllocError>
+    ensures { IfOk result (λ v. length v.items ≡ len) }
+{
+    Ok(vec![in alloc; 0u8; len]?)
+}
+
+/// The bytes of a source that were read last: so many, from a place on.
+#[derive(Drop)]
+struct Block {
+    bytes: Vec<u8>,
+    from: u64,
+    held: usize,
+}
+
+impl Block {
+    // Reads on, unless the block holds the part of the source already.
+    fn fill<S: Source>(&mut self, source: &mut S, at: u64, count: usize) -> Result<(), Failed>
+        requires window { Window (S.contents source.old) (S.size source.old) self.old.bytes.items self.old.from self.old.held }
+        requires fits { count ≤ 65536 }
+        requires part { at + count ≤ S.size source.old }
+        requires size { S.size source.old < 2 ^ 64 }
+        ensures window { Window (S.contents source.new) (S.size source.new) self.new.bytes.items self.new.from self.new.held }
+        ensures covers { OnOk result (Covers self.new.from self.new.held at count) }
+        ensures contents { S.contents source.new ≡ S.contents source.old }
+        ensures size { S.size source.new ≡ S.size source.old }
+        ensures cause { HasCause (S.measure source.old) (S.measure source.new) result }
+    {
+        if self.from <= at && at + count as u64 <= self.from + self.held as u64 {
+            return Ok(());
+        }
+        self.held = 0;
+        self.from = at;
+        self.held = source.read_at(at, &mut self.bytes)?;
+        Ok(())
+    }
+
+    // Copies a part of the source that the block holds.
+    fn copy(&self, at: u64, into: &mut [u8])
+        requires covers { Covers self.now.from self.now.held at (length into.old) }
+        requires room { self.now.held ≤ length self.now.bytes.items }
+        ensures { into.new ≡ take (length into.old) (drop (at - self.now.from) self.now.bytes.items) }
+    {
+        let start = (at - self.from) as usize;
+        into.copy_from_slice(&self.bytes[start..start + into.len()]);
+    }
+}
+
+/// A source that is read through one block.
+#[derive(Drop)]
+pub struct Blocks<S: Source> {
+    source: S,
+    size: u64,
+    block: Block,
+}
+
+impl<S: Source> Model for Blocks<S> {
+    ghost Value = { S };
+
+    ghost view = { λ b. b.source };
+
+    ghost invariant = { λ b. (b.size ≡ S.size b.source) × Window (S.contents b.source) (S.size b.source) b.block.bytes.items b.block.from b.block.held };
+}
+
+impl<S: Source> Blocks<S> {
+    /// A source with an empty block, or the source alone where there is no memory.
+    pub fn new(alloc: Global, source: S) -> Result<Blocks<S>, S>
+        ensures ok { IfOk result (λ b. b ≡ source) }
+        ensures err { IfErr result (λ s. s ≡ source) }
+    {
+        let Ok(bytes) = zeros(alloc, BLOCK) else {
+            return Err(source);
+        };
+        let size = source.length();
+        let block = Block {
+            bytes,
+            from: 0,
+            held: 0,
+        };
+        Ok(Blocks {
+            source,
+            size,
+            block,
+        })
+    }
+
+    /// The length of the source.
+    pub fn size(&self) -> u64
+        ensures size { result ≡ S.size self.now }
+        ensures told { HasLength (S.contents self.now) result }
+    {
+        self.size
+    }
+
+    /// The source alone.
+    pub fn give_source(self) -> S
+        ensures { result ≡ self }
+    {
+        self.source
+    }
+
+    /// Reads the bytes from a place on, which the source has, into a buffer. A part that is longer
+    /// than the block is read straight into it.
+    pub fn read(&mut self, at: u64, into: &mut [u8]) -> Result<(), Failed>
+        requires { at + length into.old ≤ S.size self.old }
+        ensures bytes { OnOk result (AreFrom (S.contents self.old) at into.new) }
+        ensures contents { S.contents self.new ≡ S.contents self.old }
+        ensures size { S.size self.new ≡ S.size self.old }
+        ensures cause { HasCause (S.measure self.old) (S.measure self.new) result }
+    {
+        if into.len() > BLOCK {
+            self.source.read_at(at, into)?;
+            return Ok(());
+        }
+        self.block.fill(&mut self.source, at, into.len())?;
+        self.block.copy(at, into);
+        Ok(())
+    }
+}
