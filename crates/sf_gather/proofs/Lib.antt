@@ -1,0 +1,7 @@
+pub mod Accepted
+pub mod Fronts
+pub mod Growing
+pub mod Plain
+pub mod ProperLists
+pub mod Standing
+pub mod Tails

@@ -1,0 +1,5 @@
+pub mod Accepting
+pub mod Chunks
+pub mod Gathered
+pub mod Proper
+pub mod Sound
