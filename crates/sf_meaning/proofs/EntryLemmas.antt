@@ -1,12 +1,14 @@
 -- Entries that are read one after the other.
-use Rattle.std.proofs.Common.{◌≡◌, ℕ, zero, suc, ◌+◌, ◌-◌, ◌*◌, ◌<◌, ◌≤◌, List, [], ◌∷◌, ◌++◌, take, drop, map, Bool, true, false, ◌&&◌, ◌==◌, ltb, refl, sym, ap, ◌∙◌, append_assoc, arith}
+use Rattle.std.proofs.Common.{◌≡◌, ℕ, zero, suc, ◌+◌, ◌-◌, ◌*◌, ◌<◌, ◌≤◌, List, [], ◌∷◌, ◌++◌, take, drop, map, Bool, true, false, ◌==◌, ltb, get_or, refl, sym, ap, ◌∙◌, append_assoc, arith}
 use Rattle.std.proofs.lemmas.List.{drop-drop}
-use Rattle.sf_box.specs.Boxes.{word32}
-use Rattle.std.proofs.lemmas.Bool.{eqb-true, ltb-true, lt-ltb}
-use Rattle.sf_meaning.specs.Entries.{spread_of, spreads_as, from_chunk, firsts}
+use Rattle.sf_box.specs.Boxes.{word32, word64}
+use Rattle.std.specs.List.{list_any}
+use Rattle.std.proofs.lemmas.Bool.{eqb-true, ltb-true, lt-ltb, ne_eqb}
+use Rattle.sf_meaning.specs.Entries.{spread_of, spreads_as, places_from, from_chunk, firsts}
 use Rattle.sf_meaning.specs.Movie.{begins_rising}
-use Rattle.sf_meaning.specs.Tables.{run_pairs, Spread, spreads, words, rising, spread_over, chunk_entries}
+use Rattle.sf_meaning.specs.Tables.{run_pairs, Spread, spreads, words, wide_words, rising, spread_over, chunk_entries, count_in, places_in}
 use Rattle.sf_meaning.specs.declared.entries.ChunkRun.{ChunkRun}
+use Rattle.sf_meaning.proofs.ListLemmas.{both_true}
 
 -- one more in front of the rest
 pub pushed_step : {A : Type 0} (xs : List A) (x : A) (rest tail all : List A) → xs ++ tail ≡ all → tail ≡ x ∷ rest → (xs ++ x ∷ []) ++ rest ≡ all
@@ -37,11 +39,6 @@ word_step from table n i lt =
     let k : n - i ≡ suc (n - (i + 1)) = omega arith in
     let next : (from + 4 * i) + 4 ≡ from + 4 * (i + 1) = omega arith in
     rw (k, drop-drop 4 (from + 4 * i) table, next) refl
-
-both_true : (a b : Bool) → (a && b) ≡ true → (a ≡ true) × (b ≡ true)
-both_true true true e = (refl, refl)
-both_true true false e = absurd (cc e)
-both_true false b e = absurd (cc e)
 
 firsts_as : (runs : List ChunkRun) → map (λ f. f.first) (spreads_as runs) ≡ firsts runs
 firsts_as [] = refl
@@ -89,6 +86,18 @@ begins runs first others count e up =
       up = rising_lower 0 1 (firsts others) (omega arith) up1;
     }
 
+pub wide_word_step : (from : ℕ) (table : List ℕ) (n i : ℕ) → i < n
+    → wide_words (n - i) (drop (from + 8 * i) table) ≡ word64 (drop (from + 8 * i) table) ∷ wide_words (n - (i + 1)) (drop (from + 8 * (i + 1)) table)
+wide_word_step from table n i lt =
+    let k : n - i ≡ suc (n - (i + 1)) = omega arith in
+    let next : (from + 8 * i) + 8 ≡ from + 8 * (i + 1) = omega arith in
+    rw (k, drop-drop 8 (from + 8 * i) table, next) refl
+
+-- the places of a table, from the first on
+pub places_begin : (wide : Bool) (n : ℕ) (table : List ℕ) → n ≡ count_in table → places_from wide n 0 table ≡ places_in wide table
+places_begin true n table e = let k : n - 0 ≡ count_in table = omega (arith, e) in rw k refl
+places_begin false n table e = let k : n - 0 ≡ count_in table = omega (arith, e) in rw k refl
+
 -- the numbers behind the first ones
 drop_words : (i n : ℕ) (bytes : List ℕ) → i ≤ n → drop i (words n bytes) ≡ words (n - i) (drop (4 * i) bytes)
 drop_words zero n bytes le = let k : n - 0 ≡ n = omega arith in rw k refl
@@ -103,3 +112,21 @@ pub word_at : (table : List ℕ) (n i : ℕ) → i < n → drop i (words n (drop
 word_at table n i lt =
     drop_words i n (drop 12 table) (omega (arith, lt))
     ∙ rw (drop-drop (4 * i) 12 table, word_step 12 table n i lt, drop_words (i + 1) n (drop 12 table) (omega (arith, lt)), drop-drop (4 * (i + 1)) 12 table) refl
+
+-- numbers that rise from t on are all above it
+above_all : (t m : ℕ) (xs : List ℕ) → m ≤ t → rising t xs ≡ true → list_any (λ n. n == m) xs ≡ false
+above_all t m [] le up = refl
+above_all t m (x ∷ xs) le up =
+    let p : (ltb t x ≡ true) × (rising x xs ≡ true) = both_true (ltb t x) (rising x xs) up in
+    let above : t < x = ltb-true t x p.0 in
+    let other : (x == m) ≡ false = ne_eqb x m (λ e. omega (arith, e, above, le)) in
+    rw other (above_all x m xs (omega (arith, above, le)) p.1)
+
+-- a number that isn't the first of those that rise, and not above it, isn't among them
+pub not_next : (number : ℕ) (xs : List ℕ) → (get_or xs 0 0 ≡ number → ⊥) → rising (number - 1) xs ≡ true → false ≡ list_any (λ n. n == number) xs
+not_next number [] ne up = refl
+not_next number (x ∷ xs) ne up =
+    let p : (ltb (number - 1) x ≡ true) × (rising x xs ≡ true) = both_true (ltb (number - 1) x) (rising x xs) up in
+    let above : number - 1 < x = ltb-true (number - 1) x p.0 in
+    let other : (x == number) ≡ false = ne_eqb x number ne in
+    rw other (sym (above_all x number xs (omega (arith, above, ne)) p.1))

@@ -1,7 +1,11 @@
+pub mod ListLemmas
 pub mod TableLemmas
-pub mod ContentLemmas
-pub mod Lists
+pub mod SpreadLemmas
+pub mod TimedLemmas
+pub mod RowLemmas
 pub mod FormLemmas
+pub mod TablesRead
+pub mod ChunkLemmas
 pub mod ReadBack
 pub mod EntryLemmas
 pub mod ListedSamples

@@ -10,7 +10,7 @@ use Rattle.sf_meaning.specs.declared.faults.MovieFault.TheVariants as movies
 use Rattle.sf_meaning.specs.declared.faults.TableFault.TheVariants as tables
 use Rattle.sf_meaning.specs.declared.stop.Stop.{Stop}
 use Rattle.sf_meaning.specs.declared.stop.Stop.TheVariants as stops
-use Rattle.sf_meaning.proofs.TableLemmas.{bool_tells}
+use Rattle.sf_meaning.proofs.ListLemmas.{bool_tells}
 
 -- the first items of a run and of what follows it
 pub take_run : {A : Type 0} (left n : ℕ) (x : A) (rest : List A) → take left (replicate n x ++ rest) ≡ replicate (min left n) x ++ take (left - min left n) rest

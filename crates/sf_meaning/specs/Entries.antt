@@ -1,7 +1,10 @@
 -- The entries of tables as the code holds them.
-use Rattle.std.specs.Prelude.{ℕ, pos, true, ◌+◌, List, ◌++◌, length, take, drop, map, sum, replicate}
-use Rattle.sf_meaning.specs.Tables.{Spread, InChunk, expand, running, placed, described}
+use Rattle.std.specs.Prelude.{◌≡◌, ℕ, ℤ, pos, ◌+ℤ◌, true, Bool, ◌+◌, ◌-◌, ◌*◌, List, ◌++◌, length, take, drop, map, sum, replicate, Option, Some, None, if◌then◌else◌}
+use Rattle.sf_meaning.specs.Tables.{Spread, InChunk, words, wide_words, expand, running, rising, offset_in, placed, described}
 use Rattle.sf_meaning.specs.declared.entries.Times.{Times}
+use Rattle.sf_meaning.specs.declared.entries.Offsets.{Offsets}
+use Rattle.sf_meaning.specs.declared.entries.Syncs.{Syncs}
+use Rattle.sf_meaning.specs.declared.entries.Syncs.TheVariants as syncs
 use Rattle.sf_meaning.specs.declared.entries.Places.{Places}
 use Rattle.sf_meaning.specs.declared.movie.PlainSample.{PlainSample}
 use Rattle.sf_meaning.specs.declared.entries.TimeRun.{TimeRun}
@@ -42,6 +45,24 @@ times_left t = running t.decode (replicate t.left t.delta ++ expand (time_runs t
 abbrev pub time_count : Times → ℕ
 time_count t = t.left + length (expand (time_runs t.runs.now))
 
+-- the composition offsets that are left
+abbrev pub offsets_left : Offsets → List ℤ
+offsets_left o = map (offset_in o.version) (replicate o.left o.word ++ expand (time_runs o.runs.now))
+
+-- the numbers of sync samples that are left, where they are told
+abbrev pub syncs_left : Syncs → Option (List ℕ)
+syncs_left syncs.All = None
+syncs_left (syncs.Numbers numbers) = Some numbers.now
+
+-- such numbers rise, the first above t
+abbrev pub Rises : ℕ → Option (List ℕ) → Type 0
+Rises t None = Unit {0}
+Rises t (Some numbers) = rising t numbers ≡ true
+
+-- the places of a table from one of them on, which has so many
+abbrev pub places_from : Bool → ℕ → ℕ → List ℕ → List ℕ
+places_from wide n i table = if wide then wide_words (n - i) (drop (8 + 8 * i) table) else words (n - i) (drop (8 + 4 * i) table)
+
 -- the places that are left, for samples of these sizes
 abbrev pub places_left : Places → List ℕ → List ℕ
 places_left p sizes = running p.place (take p.left sizes) ++ placed (places_as p.chunks.now) (map (λ c. c.per) (held_as_listed p.chunks.now)) (drop p.left sizes)
@@ -55,5 +76,6 @@ abbrev pub place_count : Places → ℕ
 place_count p = p.left + sum (map (λ c. c.per) (held_as_listed p.chunks.now))
 
 -- a sample at the next place
-abbrev pub sample_at : Places → ℕ → ℕ → PlainSample
-sample_at here decode size = record { decode = decode; compose = pos decode; sync = true; place = here.place; size = size; description = here.description }
+abbrev pub sample_at : Places → ℕ → ℤ → Bool → ℕ → PlainSample
+sample_at here decode offset sync size =
+    record { decode = decode; compose = pos decode +ℤ offset; sync = sync; place = here.place; size = size; description = here.description }

@@ -1,5 +1,5 @@
 -- The form of a movie box that is read so far: these boxes, in this order, and no others.
-use Rattle.std.specs.Prelude.{ℕ, ◌+◌, ◌==◌, not, false, List, [], ◌∷◌, length, drop, codes, Result, Ok, Err, get_or, if◌then◌else◌}
+use Rattle.std.specs.Prelude.{ℕ, ◌+◌, ◌==◌, not, false, Bool, ◌||◌, List, [], ◌∷◌, length, drop, codes, Result, Ok, Err, get_or, if◌then◌else◌}
 use Rattle.std.specs.Str.{bytes_eq}
 use Rattle.sf_box.specs.Boxes.{Piece, head_of, piece_of}
 use Rattle.sf_box.specs.declared.types.BoxFault.{BoxFault}
@@ -23,13 +23,25 @@ box_here tiling at bytes = do
 abbrev pub Expected : Type 0
 Expected = List ℕ × (Piece → Checked)
 
--- the box of a type that is expected next in a holder, and the place and the bytes behind it
-unfoldable pub expected_box : (BoxFault → MovieFault) → ℕ → List ℕ → ℕ → List ℕ → Result (Piece × (ℕ × List ℕ)) MovieFault
-expected_box tiling holder kind at bytes = do
+-- the next box in a holder whose body begins at a place, and the place and the bytes behind it
+unfoldable pub next_box : (BoxFault → MovieFault) → ℕ → ℕ → List ℕ → Result (Piece × (ℕ × List ℕ)) MovieFault
+next_box tiling holder at bytes = do
   check (not (length bytes == 0)) (movies.NotYet holder)
   p ← box_here tiling at bytes
-  check (bytes_eq p.head.kind.0 kind) (movies.NotYet at)
   Ok (p, (at + p.head.size, drop p.head.size bytes))
+
+-- the next box, which is to be of a type
+unfoldable pub expected_box : (BoxFault → MovieFault) → ℕ → List ℕ → ℕ → List ℕ → Result (Piece × (ℕ × List ℕ)) MovieFault
+expected_box tiling holder kind at bytes = do
+  next ← next_box tiling holder at bytes
+  check (bytes_eq next.0.head.kind.0 kind) (movies.NotYet at)
+  Ok next
+
+-- the place and the bytes behind a box that may stand next, where it does
+unfoldable pub behind_optional : (BoxFault → MovieFault) → List ℕ → ℕ → List ℕ → Result (ℕ × List ℕ) MovieFault
+behind_optional tiling kind at bytes =
+    if length bytes == 0 then Ok (at, bytes)
+    else (box_here tiling at bytes >>= (λ p. if bytes_eq p.head.kind.0 kind then Ok (at + p.head.size, drop p.head.size bytes) else Ok (at, bytes)))
 
 -- no further box
 unfoldable pub nothing_left : (BoxFault → MovieFault) → ℕ → List ℕ → Checked
@@ -66,12 +78,31 @@ narrow_header p = check (not (get_or p.body 0 0 == 1)) (movies.NotYet p.head.at)
 abbrev pub known_stsd : Piece → Checked
 known_stsd p = check (bytes_eq p.body aac_stsd) (movies.NotYet p.head.at)
 
--- the tables of a track, which stand behind the sample description box
-abbrev pub table_boxes : List Expected
-table_boxes = (codes "stts", any_box) ∷ (codes "stsz", any_box) ∷ (codes "stsc", any_box) ∷ (codes "stco", any_box) ∷ []
+-- a box with the places of the chunks, of four bytes or of eight (8.7.5)
+abbrev pub is_places : List ℕ → Bool
+is_places kind = bytes_eq kind (codes "stco") || bytes_eq kind (codes "co64")
 
+-- the last table, with the places of the chunks
+unfoldable pub places_form : ℕ → ℕ → List ℕ → Checked
+places_form holder at bytes = do
+  places ← next_box in_tables holder at bytes
+  check (is_places places.0.head.kind.0) (movies.NotYet at)
+  nothing_left in_tables places.1.0 places.1.1
+
+-- the tables of a track that stand behind those of its times
+unfoldable pub sizes_form : ℕ → ℕ → List ℕ → Checked
+sizes_form holder at bytes = do
+  stsz ← expected_box in_tables holder (codes "stsz") at bytes
+  stsc ← expected_box in_tables holder (codes "stsc") stsz.1.0 stsz.1.1
+  places_form holder stsc.1.0 stsc.1.1
+
+-- the tables of a track, which stand behind the sample description box
 unfoldable pub tables_form : ℕ → ℕ → List ℕ → Checked
-tables_form holder at bytes = in_order in_tables holder table_boxes at bytes
+tables_form holder at bytes = do
+  stts ← expected_box in_tables holder (codes "stts") at bytes
+  ctts ← behind_optional in_tables (codes "ctts") stts.1.0 stts.1.1
+  stss ← behind_optional in_tables (codes "stss") ctts.0 ctts.1
+  sizes_form holder stss.0 stss.1
 
 unfoldable pub stbl_form : Piece → Checked
 stbl_form p = do

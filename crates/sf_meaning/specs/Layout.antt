@@ -1,14 +1,11 @@
-use Rattle.std.specs.Prelude.{ℕ, pos, ◌+◌, ◌-◌, ◌*◌, ◌/◌, ◌==◌, List, [], ◌∷◌, ◌++◌, length, map, sum, codes, replicate, if◌then◌else◌}
-use Rattle.std.specs.List.{flat_map, list_all}
+use Rattle.std.specs.Prelude.{ℕ, pos, ◌+◌, ◌*◌, ◌/◌, nat_le, Bool, List, [], ◌∷◌, ◌++◌, length, map, codes, if◌then◌else◌}
+use Rattle.std.specs.List.{flat_map}
 use Rattle.sf_box.specs.Boxes.{box_of, be32, be64, wide_box}
 use Rattle.sf_box.specs.Parts.{Part, tiled}
 use Rattle.sf_tick.specs.declared.types.Stored.{Stored}
 use Rattle.sf_tick.specs.declared.types.Chunk.{Chunk}
-use Rattle.sf_meaning.specs.Tables.{Spread, running}
+use Rattle.sf_meaning.specs.Stbl.{zeros, Timed, Row, duration_in_rows, stbl_parts}
 use Rattle.sf_meaning.specs.Joined.{Held}
-
-abbrev pub zeros : ℕ → List ℕ
-zeros n = replicate n 0
 
 -- The samples of a list of chunks, and what is listed of samples.
 abbrev pub samples_of : List Chunk → List Stored
@@ -17,9 +14,6 @@ samples_of chunks = flat_map (λ c. c.samples) chunks
 abbrev pub stored_bytes : List Stored → List ℕ
 stored_bytes ss = flat_map (λ s. s.bytes) ss
 
-abbrev pub sizes_of : List Stored → List ℕ
-sizes_of ss = map (λ s. length s.bytes) ss
-
 abbrev pub decodes_of : List Stored → List ℕ
 decodes_of ss = map (λ s. s.decode) ss
 
@@ -27,59 +21,22 @@ decodes_of ss = map (λ s. s.decode) ss
 abbrev pub held_as : Stored → Held
 held_as s = record { decode = s.decode; compose = pos s.compose; sync = s.sync; bytes = s.bytes }
 
-abbrev pub in_front : ℕ → List (ℕ × ℕ) → List (ℕ × ℕ)
-in_front x [] = (1, x) ∷ []
-in_front x (run ∷ runs) = if x == run.1 then (run.0 + 1, x) ∷ runs else (1, x) ∷ run ∷ runs
+-- a stored sample as the tables list it
+abbrev pub timed : Stored → Timed
+timed s = record { decode = s.decode; compose = s.compose; sync = s.sync; size = length s.bytes }
 
--- runs of equal neighbours, as few as the list allows (8.6.1.2)
-abbrev pub runs_of : List ℕ → List (ℕ × ℕ)
-runs_of [] = []
-runs_of (x ∷ xs) = in_front x (runs_of xs)
+-- a chunk at a place
+abbrev pub row_at : ℕ → Chunk → Row
+row_at place chunk = record { place = place; samples = map timed chunk.samples }
 
-abbrev pub differences : ℕ → ℕ → List ℕ → List ℕ
-differences last t [] = last ∷ []
-differences last t (u ∷ ts) = (u - t) ∷ differences (u - t) u ts
+-- chunks that stand one after the other, from a place on
+abbrev pub rows_from : ℕ → List Chunk → List Row
+rows_from place [] = []
+rows_from place (c ∷ cs) = row_at place c ∷ rows_from (place + length (stored_bytes c.samples)) cs
 
--- The delta of each sample: the next one's decode time less its own; the last one's is the one before, and 0 for an only sample.
-abbrev pub deltas_of : List ℕ → List ℕ
-deltas_of [] = []
-deltas_of (t ∷ ts) = differences 0 t ts
-
--- the size that all samples have, or 0
-abbrev pub uniform : List ℕ → ℕ
-uniform [] = 0
-uniform (x ∷ xs) = if list_all (λ y. y == x) xs then x else 0
-
--- an entry where a chunk's count isn't the one before
-abbrev pub spread_from : ℕ → ℕ → List ℕ → List Spread
-spread_from number last [] = []
-spread_from number last (c ∷ counts) =
-    if c == last then spread_from (number + 1) c counts
-    else record { first = number; per = c; description = 1 } ∷ spread_from (number + 1) c counts
-
--- where each chunk begins: the content of mdat begins at 40
-abbrev pub places_of : List Chunk → List ℕ
-places_of chunks = running 40 (map (λ c. length (stored_bytes c.samples)) chunks)
-
-abbrev pub run_bytes : ℕ × ℕ → List ℕ
-run_bytes run = be32 run.0 ++ be32 run.1
-
-abbrev pub spread_bytes : Spread → List ℕ
-spread_bytes e = be32 e.first ++ (be32 e.per ++ be32 e.description)
-
--- the bodies of the tables: version and flags, a count, and the entries (8.6.1.2, 8.7.3 to 8.7.5)
-unfoldable pub stts_body : List ℕ → List ℕ
-stts_body deltas = zeros 4 ++ (be32 (length (runs_of deltas)) ++ flat_map run_bytes (runs_of deltas))
-
-unfoldable pub stsz_body : List ℕ → List ℕ
-stsz_body sizes =
-    zeros 4 ++ (be32 (uniform sizes) ++ (be32 (length sizes) ++ (if uniform sizes == 0 then flat_map be32 sizes else [])))
-
-unfoldable pub stsc_body : List ℕ → List ℕ
-stsc_body counts = zeros 4 ++ (be32 (length (spread_from 1 0 counts)) ++ flat_map spread_bytes (spread_from 1 0 counts))
-
-unfoldable pub stco_body : List ℕ → List ℕ
-stco_body places = zeros 4 ++ (be32 (length places) ++ flat_map be32 places)
+-- the chunks of a file: the content of mdat begins at 40
+abbrev pub rows_of : List Chunk → List Row
+rows_of chunks = rows_from 40 chunks
 
 -- the identity transformation (8.2.2)
 abbrev pub matrix : List ℕ
@@ -90,19 +47,34 @@ matrix =
 abbrev pub ftyp_body : List ℕ
 ftyp_body = codes "mp42" ++ (zeros 4 ++ (codes "isom" ++ codes "mp42"))
 
+-- Whether a duration needs version 1 of a header, with times and duration in eight bytes: in four the greatest number says that it isn't known (8.2.2.3).
+abbrev pub is_long : ℕ → Bool
+is_long duration = nat_le 4294967295 duration
+
+-- a header's duration
+abbrev pub duration_bytes : ℕ → List ℕ
+duration_bytes duration = if is_long duration then be64 duration else be32 duration
+
+-- a header's version, its flags, and when what it is of was made and changed, both not said
+abbrev pub header_times : ℕ → ℕ → List ℕ
+header_times flags duration =
+    if is_long duration then (1 ∷ 0 ∷ 0 ∷ flags ∷ zeros 16) else (0 ∷ 0 ∷ 0 ∷ flags ∷ zeros 8)
+
 -- the movie header: microseconds a second, how long the movie is in them, and the next track's number (8.2.2)
 abbrev pub mvhd_body : ℕ → List ℕ
 mvhd_body length_us =
-    zeros 12 ++ (be32 1000000 ++ (be32 length_us ++ ((0 ∷ 1 ∷ 0 ∷ 0 ∷ 1 ∷ 0 ∷ []) ++ (zeros 10 ++ (matrix ++ (zeros 24 ++ (0 ∷ 0 ∷ 0 ∷ 2 ∷ [])))))))
+    header_times 0 length_us
+    ++ (be32 1000000 ++ (duration_bytes length_us ++ ((0 ∷ 1 ∷ 0 ∷ 0 ∷ 1 ∷ 0 ∷ []) ++ (zeros 10 ++ (matrix ++ (zeros 24 ++ (0 ∷ 0 ∷ 0 ∷ 2 ∷ [])))))))
 
 -- the track header: enabled, in the movie and in its preview; track 1; full volume (8.3.2)
 abbrev pub tkhd_body : ℕ → List ℕ
 tkhd_body length_us =
-    (0 ∷ 0 ∷ 0 ∷ 7 ∷ []) ++ (zeros 8 ++ ((0 ∷ 0 ∷ 0 ∷ 1 ∷ []) ++ (zeros 4 ++ (be32 length_us ++ (zeros 12 ++ ((1 ∷ 0 ∷ 0 ∷ 0 ∷ []) ++ (matrix ++ zeros 8)))))))
+    header_times 7 length_us
+    ++ ((0 ∷ 0 ∷ 0 ∷ 1 ∷ []) ++ (zeros 4 ++ (duration_bytes length_us ++ (zeros 12 ++ ((1 ∷ 0 ∷ 0 ∷ 0 ∷ []) ++ (matrix ++ zeros 8))))))
 
 -- the media header: ticks a second, the duration in them, no language (8.4.2)
 abbrev pub mdhd_body : ℕ → ℕ → List ℕ
-mdhd_body scale duration = zeros 12 ++ (be32 scale ++ (be32 duration ++ (0x55 ∷ 0xC4 ∷ 0 ∷ 0 ∷ [])))
+mdhd_body scale duration = header_times 0 duration ++ (be32 scale ++ (duration_bytes duration ++ (0x55 ∷ 0xC4 ∷ 0 ∷ 0 ∷ [])))
 
 -- the handler of sound (8.4.3)
 abbrev pub hdlr_body : List ℕ
@@ -112,19 +84,7 @@ hdlr_body = zeros 8 ++ (codes "soun" ++ (zeros 12 ++ (codes "SoundSamples" ++ (0
 abbrev pub dref_body : List ℕ
 dref_body = zeros 4 ++ ((0 ∷ 0 ∷ 0 ∷ 1 ∷ []) ++ ((0 ∷ 0 ∷ 0 ∷ 12 ∷ []) ++ (codes "url " ++ (0 ∷ 0 ∷ 0 ∷ 1 ∷ []))))
 
--- the sample description box: one entry (8.5.2)
-abbrev pub stsd_body : List ℕ → List ℕ
-stsd_body entry = (0 ∷ 0 ∷ 0 ∷ 0 ∷ 0 ∷ 0 ∷ 0 ∷ 1 ∷ []) ++ entry
-
 -- the boxes in each box, from what they hold (6.2.3)
-abbrev pub in_stbl : List ℕ → List ℕ → List ℕ → List ℕ → List ℕ → List Part
-in_stbl entry deltas sizes counts places =
-    (codes "stsd", stsd_body entry)
-    ∷ (codes "stts", stts_body deltas)
-    ∷ (codes "stsz", stsz_body sizes)
-    ∷ (codes "stsc", stsc_body counts)
-    ∷ (codes "stco", stco_body places) ∷ []
-
 abbrev pub in_dinf : List Part
 in_dinf = (codes "dref", dref_body) ∷ []
 
@@ -146,7 +106,7 @@ in_moov start_us length_us trak =
 
 -- how long the samples of a list of chunks last, in ticks and in microseconds
 abbrev pub duration_of : List Chunk → ℕ
-duration_of chunks = sum (deltas_of (decodes_of (samples_of chunks)))
+duration_of chunks = duration_in_rows (rows_of chunks)
 
 abbrev pub length_us_of : ℕ → List Chunk → ℕ
 length_us_of scale chunks = duration_of chunks * 1000000 / scale
@@ -157,12 +117,8 @@ first_dts [] = 0
 first_dts (s ∷ ss) = s.dts_us
 
 -- the boxes of the file of a track's chunks
-abbrev pub stbl_parts : List ℕ → List Chunk → List Part
-stbl_parts entry chunks =
-    in_stbl entry (deltas_of (decodes_of (samples_of chunks))) (sizes_of (samples_of chunks)) (map (λ c. length c.samples) chunks) (places_of chunks)
-
 abbrev pub minf_parts : List ℕ → List Chunk → List Part
-minf_parts entry chunks = in_minf (stbl_parts entry chunks)
+minf_parts entry chunks = in_minf (stbl_parts entry (rows_of chunks))
 
 abbrev pub mdia_parts : ℕ → List ℕ → List Chunk → List Part
 mdia_parts scale entry chunks = in_mdia scale (duration_of chunks) (minf_parts entry chunks)
@@ -173,7 +129,7 @@ trak_parts scale entry chunks = in_trak (length_us_of scale chunks) (mdia_parts 
 abbrev pub moov_parts : ℕ → List ℕ → List Chunk → List Part
 moov_parts scale entry chunks = in_moov (first_dts (samples_of chunks)) (length_us_of scale chunks) (trak_parts scale entry chunks)
 
--- The file of one track's chunks, none of them empty, whose samples are all sync and shown when they are decoded.
+-- The file of one sound track's chunks, none of them empty.
 unfoldable pub layout : ℕ → List ℕ → List Chunk → List ℕ
 layout scale entry chunks =
     box_of (codes "ftyp") ftyp_body

@@ -6,5 +6,6 @@ pub mod Form
 pub mod Tables
 pub mod Movie
 pub mod Joined
+pub mod Stbl
 pub mod Layout
 pub mod Writable

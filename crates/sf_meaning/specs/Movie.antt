@@ -1,10 +1,12 @@
-use Rattle.std.specs.Prelude.{ℕ, pos, ◌+◌, ◌*◌, ◌%◌, ◌^◌, ◌==◌, nat_lt, nat_le, Bool, true, false, not, ◌||◌, ◌&&◌, List, [], ◌∷◌, length, take, drop, map, sum, codes, Option, Some, None, Result, Ok, Err, if◌then◌else◌, get_or}
+use Rattle.std.specs.Prelude.{ℕ, ℤ, pos, ◌+ℤ◌, ◌+◌, ◌*◌, ◌%◌, ◌^◌, ◌==◌, nat_lt, nat_le, Bool, true, false, not, ◌||◌, ◌&&◌, List, [], ◌∷◌, length, take, drop, map, sum, codes, Option, Some, None, Result, Ok, Err, if◌then◌else◌, get_or}
 use Rattle.std.specs.List.{slice_get}
+use Rattle.std.specs.Str.{bytes_eq}
+use Rattle.std.specs.Option.{option_or}
 use Rattle.sf_box.specs.Parts.{child_piece}
 use Rattle.sf_box.specs.Boxes.{Piece, boxes, leading, word32, word64}
 use Rattle.sf_meaning.specs.Steps.{◌>>=◌, ◌>>◌, check, needed, as_fault, of_kind, first_of, body_at, four}
 use Rattle.sf_meaning.specs.Form.{known_stsd, moov_form}
-use Rattle.sf_meaning.specs.Tables.{Spread, InChunk, running, chunk_entries, placed, described, rising, count_in, deltas_in, spreads_in, places_in, sample_count, sizes_in}
+use Rattle.sf_meaning.specs.Tables.{Spread, InChunk, running, chunk_entries, placed, described, rising, count_in, deltas_in, offsets_in, sync_numbers_in, is_sync, spreads_in, places_in, sample_count, sizes_in}
 use Rattle.sf_meaning.specs.declared.faults.HeadFault.TheVariants as heads
 use Rattle.sf_meaning.specs.declared.faults.TableFault.TheVariants as tables
 use Rattle.sf_meaning.specs.declared.faults.MovieFault.{MovieFault}
@@ -124,14 +126,28 @@ descriptions_known stsc entries (d ∷ ds) = do
   check (not (d == 0) && nat_le d entries) (movies.Table (tables.Description stsc.head.at d))
   descriptions_known stsc entries ds
 
--- one sample for each size, with its decode time, its place and its description
-abbrev pub rows : List ℕ → List ℕ → List ℕ → List ℕ → List PlainSample
-rows [] decodes places descriptions = []
-rows (size ∷ sizes) [] places descriptions = []
-rows (size ∷ sizes) (d ∷ decodes) [] descriptions = []
-rows (size ∷ sizes) (d ∷ decodes) (p ∷ places) [] = []
-rows (size ∷ sizes) (d ∷ decodes) (p ∷ places) (e ∷ descriptions) =
-    record { decode = d; compose = pos d; sync = true; place = p; size = size; description = e } ∷ rows sizes decodes places descriptions
+-- One sample for each size, from a number on, with its decode time, its composition offset, which is 0 where none is told, whether it is sync, its place and its description.
+abbrev pub rows : ℕ → List ℕ → List ℕ → List ℤ → Option (List ℕ) → List ℕ → List ℕ → List PlainSample
+rows number [] decodes offsets sync places descriptions = []
+rows number (size ∷ sizes) [] offsets sync places descriptions = []
+rows number (size ∷ sizes) (d ∷ decodes) offsets sync [] descriptions = []
+rows number (size ∷ sizes) (d ∷ decodes) offsets sync (p ∷ places) [] = []
+rows number (size ∷ sizes) (d ∷ decodes) offsets sync (p ∷ places) (e ∷ descriptions) =
+    record { decode = d; compose = pos d +ℤ get_or offsets 0 (pos 0); sync = is_sync sync number; place = p; size = size; description = e }
+    ∷ rows (number + 1) sizes decodes (drop 1 offsets) sync places descriptions
+
+-- The tables of a track: the boxes of decode times, chunks, sizes and places, the composition offsets, and the numbers of the sync samples, where they are told.
+pub record Tables : Type 0 where
+  pub stts : Piece
+  pub offsets : List ℤ
+  pub stsc : Piece
+  pub stsz : Piece
+  pub places : Piece
+  pub sync : Option (List ℕ)
+
+-- whether the places of the chunks have eight bytes (8.7.5)
+abbrev pub is_wide : Piece → Bool
+is_wide p = bytes_eq p.head.kind.0 (codes "co64")
 
 -- The deltas, and what holds in the chunks, say so many samples; or the first thing that is wrong with them.
 unfoldable pub samples_said : ℕ → ℕ → ℕ → Piece → Piece → List ℕ → List InChunk → Step (Unit {0})
@@ -141,13 +157,14 @@ samples_said scale entries n stts stsc deltas chunks = do
   check (nat_le n (sum (map (λ c. c.per) chunks))) (short_table stsc)
   descriptions_known stsc entries (take n (described chunks))
 
--- The samples that the tables of a track say (8.6.1.2, 8.7.3 to 8.7.5), or the first thing that is wrong with them.
-unfoldable pub samples_in : ℕ → ℕ → Piece → Piece → Piece → Piece → Step (List PlainSample)
-samples_in scale entries stts stsc stsz stco = do
-  let deltas = deltas_in stts.body
-  let chunks = chunk_entries (spreads_in stsc.body) (count_in stco.body)
-  samples_said scale entries (sample_count stsz.body) stts stsc deltas chunks
-  Ok (rows (sizes_in stsz.body) (running 0 deltas) (placed (places_in stco.body) (map (λ c. c.per) chunks) (sizes_in stsz.body)) (described chunks))
+-- The samples that the tables of a track say (8.6.1, 8.6.2, 8.7.3 to 8.7.5), or the first thing that is wrong with them.
+unfoldable pub samples_in : ℕ → ℕ → Tables → Step (List PlainSample)
+samples_in scale entries t = do
+  let deltas = deltas_in t.stts.body
+  let chunks = chunk_entries (spreads_in t.stsc.body) (count_in t.places.body)
+  let places = placed (places_in (is_wide t.places) t.places.body) (map (λ c. c.per) chunks) (sizes_in t.stsz.body)
+  samples_said scale entries (sample_count t.stsz.body) t.stts t.stsc deltas chunks
+  Ok (rows 1 (sizes_in t.stsz.body) (running 0 deltas) t.offsets t.sync places (described chunks))
 
 -- A sample lies in the file, which has so many bytes, and isn't too long.
 abbrev pub held_sample : ℕ → ℕ → ℕ → PlainSample → Step PlainSample
@@ -170,9 +187,9 @@ held_samples bytes number samples = do
   Ok samples
 
 -- the samples that these tables say, of a track of a file of so many bytes
-unfoldable pub samples_held : ℕ → ℕ → ℕ → ℕ → Piece → Piece → Piece → Piece → Step (List PlainSample)
-samples_held bytes number scale entries stts stsc stsz stco = do
-  samples ← samples_in scale entries stts stsc stsz stco
+unfoldable pub samples_held : ℕ → ℕ → ℕ → ℕ → Tables → Step (List PlainSample)
+samples_held bytes number scale entries t = do
+  samples ← samples_in scale entries t
   held_samples bytes number samples
 
 -- the tables of a sample table box, each of them whole
@@ -181,6 +198,13 @@ times_table stbl ps = do
   stts ← needed_table stbl (codes "stts") ps
   counted 8 stts
   Ok stts
+
+-- the composition offsets that a composition offset box says, none without it (8.6.1.3)
+unfoldable pub offsets_told : Option Piece → Step (List ℤ)
+offsets_told None = Ok []
+offsets_told (Some ctts) = do
+  counted 8 ctts
+  Ok (offsets_in ctts.body)
 
 unfoldable pub chunks_table : Piece → List Piece → Step Piece
 chunks_table stbl ps = do
@@ -194,20 +218,40 @@ sizes_table stbl ps = do
   sizes_whole stsz
   Ok stsz
 
+-- the places of the chunks: stco, or co64 where there is none
+abbrev pub places_box : Piece → List Piece → Step Piece
+places_box stbl ps = needed (option_or (child_piece ps (codes "stco")) (child_piece ps (codes "co64"))) (movies.Table (tables.Missing (four (codes "stco")) (body_at stbl)))
+
 unfoldable pub places_table : Piece → List Piece → Step Piece
 places_table stbl ps = do
-  stco ← needed_table stbl (codes "stco") ps
-  counted 4 stco
-  Ok stco
+  places ← places_box stbl ps
+  counted (if is_wide places then 8 else 4) places
+  Ok places
 
--- the samples of a sample table box (8.5.1), of a track of a file of so many bytes
-unfoldable pub tables_in : ℕ → ℕ → ℕ → ℕ → Piece → List Piece → Step (List PlainSample)
-tables_in bytes number scale entries stbl ps = do
+-- the numbers that a sync sample box says, in order and from 1, where there is one (8.6.2)
+unfoldable pub sync_told : Option Piece → Step (Option (List ℕ))
+sync_told None = Ok None
+sync_told (Some stss) = do
+  counted 4 stss
+  check (rising 0 (sync_numbers_in stss.body)) (movies.Table (tables.NotRising stss.head.kind stss.head.at))
+  Ok (Some (sync_numbers_in stss.body))
+
+-- the tables of a sample table box (8.5.1), each of them whole
+unfoldable pub tables_told : Piece → List Piece → Step Tables
+tables_told stbl ps = do
   stts ← times_table stbl ps
+  offsets ← offsets_told (child_piece ps (codes "ctts"))
   stsc ← chunks_table stbl ps
   stsz ← sizes_table stbl ps
-  stco ← places_table stbl ps
-  samples_held bytes number scale entries stts stsc stsz stco
+  places ← places_table stbl ps
+  sync ← sync_told (child_piece ps (codes "stss"))
+  Ok (record { stts = stts; offsets = offsets; stsc = stsc; stsz = stsz; places = places; sync = sync })
+
+-- the samples of a sample table box, of a track of a file of so many bytes
+unfoldable pub tables_in : ℕ → ℕ → ℕ → ℕ → Piece → List Piece → Step (List PlainSample)
+tables_in bytes number scale entries stbl ps = do
+  t ← tables_told stbl ps
+  samples_held bytes number scale entries t
 
 -- the boxes inside a sample table box
 abbrev pub in_table : Piece → Step (List Piece)

@@ -1,14 +1,15 @@
 -- How an answer of the code tells what a step of reading gives.
-use Rattle.std.specs.Prelude.{◌≡◌, ℕ, false, List, map, Option, Some, None, Result, Ok, Err}
+use Rattle.std.specs.Prelude.{◌≡◌, ℕ, ℤ, false, List, map, Option, Some, None, Result, Ok, Err}
 use Rattle.sf_box.specs.Boxes.{Piece, boxes}
 use Rattle.sf_box.specs.declared.types.BoxFault.{BoxFault}
 use Rattle.sf_box.specs.declared.types.BoxFault.TheVariants as boxes_of
 use Rattle.sf_box.specs.declared.types.ChildrenFault.{ChildrenFault}
 use Rattle.sf_box.specs.declared.types.ChildrenFault.TheVariants as children
 use Rattle.sf_meaning.specs.Form.{in_heads, in_tables}
-use Rattle.sf_meaning.specs.Movie.{Step}
+use Rattle.sf_meaning.specs.Movie.{Step, Tables}
 use Rattle.sf_meaning.specs.declared.faults.MovieFault.{MovieFault}
 use Rattle.sf_meaning.specs.declared.found.Found.{Found}
+use Rattle.sf_meaning.specs.declared.found.TableBoxes.{TableBoxes}
 use Rattle.sf_meaning.specs.declared.faults.MovieFault.TheVariants as movies
 use Rattle.sf_meaning.specs.declared.found.Level.{Level}
 use Rattle.sf_meaning.specs.declared.found.Level.TheVariants as levels
@@ -26,6 +27,11 @@ pieces fs = map piece fs
 abbrev pub maybe_piece : Option Found → Option Piece
 maybe_piece None = None
 maybe_piece (Some f) = Some (piece f)
+
+-- tables of a track, from their boxes, the composition offsets and the numbers of the sync samples
+abbrev pub tables_as : TableBoxes → List ℤ → Option (List ℕ) → Tables
+tables_as boxes offsets sync =
+    record { stts = piece boxes.stts; offsets = offsets; stsc = piece boxes.stsc; stsz = piece boxes.stsz; places = piece boxes.places; sync = sync }
 
 -- reading stopped at this fault, or for want of memory
 abbrev pub Stops : {Y : Type 0} → Stop → Step Y → Type 0

@@ -1,11 +1,17 @@
-use Rattle.std.specs.Prelude.{ℕ, zero, suc, ◌+◌, ◌-◌, ◌==◌, nat_lt, Bool, true, ◌&&◌, List, [], ◌∷◌, ◌++◌, take, drop, replicate, if◌then◌else◌}
-use Rattle.std.specs.List.{flat_map}
-use Rattle.sf_box.specs.Boxes.{word32}
+use Rattle.std.specs.Prelude.{ℕ, zero, suc, ◌+◌, ◌-◌, ◌==◌, nat_lt, ℤ, pos, Bool, true, ◌&&◌, List, [], ◌∷◌, ◌++◌, take, drop, map, replicate, Option, Some, None, if◌then◌else◌, get_or}
+use Rattle.std.specs.Int.{w32, cast_signed}
+use Rattle.std.specs.List.{flat_map, list_any}
+use Rattle.sf_box.specs.Boxes.{word32, word64}
 
 -- so many numbers of four bytes
 abbrev pub words : ℕ → List ℕ → List ℕ
 words zero bytes = []
 words (suc n) bytes = word32 bytes ∷ words n (drop 4 bytes)
+
+-- so many numbers of eight bytes
+abbrev pub wide_words : ℕ → List ℕ → List ℕ
+wide_words zero bytes = []
+wide_words (suc n) bytes = word64 bytes ∷ wide_words n (drop 8 bytes)
 
 -- so many runs: a count and a value
 abbrev pub run_pairs : ℕ → List ℕ → List (ℕ × ℕ)
@@ -73,13 +79,30 @@ count_in body = word32 (drop 4 body)
 abbrev pub deltas_in : List ℕ → List ℕ
 deltas_in stts = expand (run_pairs (count_in stts) (drop 8 stts))
 
+-- a composition offset: unsigned in version 0, in two's complement in each other version (8.6.1.3)
+abbrev pub offset_in : ℕ → ℕ → ℤ
+offset_in version word = if version == 0 then pos word else cast_signed w32 word
+
+-- the composition offsets, from decode times to composition times (8.6.1.3)
+abbrev pub offsets_in : List ℕ → List ℤ
+offsets_in ctts = map (offset_in (get_or ctts 0 0)) (expand (run_pairs (count_in ctts) (drop 8 ctts)))
+
+-- the numbers of the sync samples, from 1 (8.6.2)
+abbrev pub sync_numbers_in : List ℕ → List ℕ
+sync_numbers_in stss = words (count_in stss) (drop 8 stss)
+
+-- whether the sample of a number is sync: each is where no numbers are told
+abbrev pub is_sync : Option (List ℕ) → ℕ → Bool
+is_sync None number = true
+is_sync (Some numbers) number = list_any (λ n. n == number) numbers
+
 -- the sample-to-chunk entries (8.7.4)
 abbrev pub spreads_in : List ℕ → List Spread
 spreads_in stsc = spreads (count_in stsc) (drop 8 stsc)
 
--- the places of the chunks (8.7.5)
-abbrev pub places_in : List ℕ → List ℕ
-places_in stco = words (count_in stco) (drop 8 stco)
+-- the places of the chunks, of four bytes or of eight (8.7.5)
+abbrev pub places_in : Bool → List ℕ → List ℕ
+places_in wide table = if wide then wide_words (count_in table) (drop 8 table) else words (count_in table) (drop 8 table)
 
 -- how many samples there are (8.7.3.2)
 abbrev pub sample_count : List ℕ → ℕ

@@ -1,4 +1,4 @@
-use Rattle.std.specs.Prelude.{◌≡◌, ℕ, ◌+◌, ◌-◌, ◌^◌, ◌<◌, ◌≤◌, true, List, [], ◌∷◌, length}
+use Rattle.std.specs.Prelude.{◌≡◌, ℕ, ◌+◌, ◌-◌, ◌^◌, ◌<◌, ◌≤◌, List, [], ◌∷◌, length}
 use Rattle.std.specs.List.{AllByRecursion}
 use Rattle.sf_box.specs.Parts.{tiled}
 use Rattle.sf_tick.specs.Tick.{tick}
@@ -6,12 +6,12 @@ use Rattle.sf_tick.specs.declared.types.Stored.{Stored}
 use Rattle.sf_tick.specs.declared.types.Chunk.{Chunk}
 use Rattle.sf_meaning.specs.Layout.{samples_of, decodes_of, stored_bytes, duration_of, length_us_of, first_dts, moov_parts}
 
--- a sample that is sync, shown when it is decoded, and neither empty nor too long
-pub record IsPlain (s : Stored) : Type 0 where
-  pub compose_is : s.compose ≡ s.decode
-  pub sync_is : s.sync ≡ true
+-- a sample that is neither empty nor too long, and whose composition offset has four bytes
+pub record IsWritable (s : Stored) : Type 0 where
   pub some : 0 < length s.bytes
   pub short : length s.bytes ≤ 67108864
+  pub early : s.decode ≤ s.compose + 2 ^ 31
+  pub late : s.compose < s.decode + 2 ^ 31
 
 -- Decode times don't fall, and each is less than 2^32 ticks behind the one before.
 abbrev pub Paced : ℕ → List ℕ → Type 0
@@ -28,11 +28,11 @@ pub record Writable (scale : ℕ) (entry : List ℕ) (chunks : List Chunk) : Typ
   pub scale_some : 1 ≤ scale
   pub scale_fits : scale < 2 ^ 32
   pub filled : AllByRecursion (λ c. 0 < length c.samples) chunks
-  pub plain : AllByRecursion IsPlain (samples_of chunks)
+  pub each : AllByRecursion IsWritable (samples_of chunks)
   pub paced : PacedFrom (tick (first_dts (samples_of chunks)) scale) (decodes_of (samples_of chunks))
   pub start : first_dts (samples_of chunks) < 2 ^ 64
   pub few : length (samples_of chunks) ≤ 16777216
-  pub duration : duration_of chunks < 2 ^ 32
-  pub length_us : length_us_of scale chunks < 2 ^ 32
-  pub payload : 40 + length (stored_bytes (samples_of chunks)) < 2 ^ 32
+  pub duration : duration_of chunks < 2 ^ 32 - 1
+  pub length_us : length_us_of scale chunks < 2 ^ 32 - 1
+  pub payload : 40 + length (stored_bytes (samples_of chunks)) < 2 ^ 64
   pub moov : 8 + length (tiled (moov_parts scale entry chunks)) ≤ 268435456

@@ -1,10 +1,10 @@
-ghost use Rattle.std.specs.Prelude.{◌≡◌, ℕ, ◌+◌, ◌-◌, ◌*◌, ◌^◌, ◌<◌, ◌≤◌, true, ◌∷◌, length, take, drop, IfOk};
-ghost use Rattle.sf_meaning.specs.Entries.{spreads_as, held_as_listed, places_as, from_chunk, firsts};
-ghost use Rattle.sf_meaning.specs.Tables.{chunk_entries, spread_over, rising, words};
+ghost use Rattle.std.specs.Prelude.{◌≡◌, ℕ, ◌+◌, ◌-◌, ◌*◌, ◌^◌, ◌<◌, ◌≤◌, true, ◌∷◌, length, take, IfOk, if◌then◌else◌};
+ghost use Rattle.sf_meaning.specs.Entries.{spreads_as, held_as_listed, places_as, places_from, from_chunk, firsts};
+ghost use Rattle.sf_meaning.specs.Tables.{chunk_entries, spread_over, rising, count_in, places_in};
 ghost use Rattle.sf_meaning.specs.Movie.{begins_rising};
 
 use crate::entries::{ChunkAt, ChunkRun};
-use sf_box::read_u32;
+use sf_box::{read_u32, read_u64};
 use std::alloc::{AllocError, Global};
 
 // The entry that holds for a chunk, and those behind it, where the current one holds up to it.
@@ -23,17 +23,32 @@ fn entry_for<'a>(
     }
 }
 
-/// The chunks of a chunk offset box (8.7.5), which holds so many, with what the sample-to-chunk box says of each.
+// The place of a chunk, from 0, in a table with places of eight bytes or of four (8.7.5).
+fn place_at(table: &[u8], wide: bool, i: u32) -> u64
+    requires { 8 + (if wide then 8 else 4) * (i + 1) ≤ length table.now }
+    ensures { (n : ℕ) → i < n → places_from wide n i table.now ≡ result ∷ places_from wide n (i + 1) table.now }
+{
+    if wide {
+        read_u64(table, 8 + 8 * i as usize)
+    } else {
+        u64::from(read_u32(table, 8 + 4 * i as usize))
+    }
+}
+
+/// The chunks of a chunk offset box (8.7.5), which holds so many places of eight bytes or of four, with
+/// what the sample-to-chunk box says of each.
 pub(crate) fn chunks_at(
     alloc: Global,
     runs: &[ChunkRun],
-    stco: &[u8],
+    table: &[u8],
+    wide: bool,
     count: u32,
 ) -> Result<Vec<ChunkAt>, AllocError>
     requires rising { begins_rising (spreads_as runs.now) ≡ true }
-    requires long { 8 + 4 * count ≤ length stco.now }
+    requires count { count ≡ count_in table.now }
+    requires long { 8 + (if wide then 8 else 4) * count ≤ length table.now }
     ensures held { IfOk result (λ v. held_as_listed v.items ≡ chunk_entries (spreads_as runs.now) count) }
-    ensures places { IfOk result (λ v. places_as v.items ≡ take (length v.items) (words count (drop 8 stco.now))) }
+    ensures places { IfOk result (λ v. places_as v.items ≡ take (length v.items) (places_in wide table.now)) }
 {
     let mut chunks = Vec::new(alloc);
     let Some((first, others)) = runs.split_first() else {
@@ -46,7 +61,7 @@ pub(crate) fn chunks_at(
         current = held;
         behind = left;
         chunks.push(ChunkAt {
-            place: read_u32(stco, 8 + 4 * i as usize),
+            place: place_at(table, wide, i),
             per: held.per,
             description: held.description,
         })?;

@@ -1,4 +1,5 @@
-/// A run of the decoding time box (ISO/IEC 14496-12, 8.6.1.2): so many samples with this delta.
+/// A run of the decoding time box (ISO/IEC 14496-12, 8.6.1.2): so many samples with this delta. Of the
+/// composition offset box (8.6.1.3): so many with this offset, as it stands in the file.
 #[derive(Clone, Copy)]
 pub(crate) struct TimeRun {
     pub count: u32,
@@ -19,7 +20,7 @@ pub(crate) struct ChunkRun {
 /// A chunk: where it begins, how many samples it has, and their description.
 #[derive(Clone, Copy)]
 pub(crate) struct ChunkAt {
-    pub place: u32,
+    pub place: u64,
     pub per: u32,
     pub description: u32,
 }
@@ -32,6 +33,24 @@ pub(crate) struct Times<'a> {
     pub left: u32,
     pub delta: u32,
     pub runs: &'a [TimeRun],
+}
+
+/// The composition offsets that are left: so many samples with this one, as it stands in the file, then
+/// the runs.
+#[derive(Clone, Copy)]
+pub(crate) struct Offsets<'a> {
+    /// The version of the box, which says how an offset is read.
+    pub version: u8,
+    pub left: u32,
+    pub word: u32,
+    pub runs: &'a [TimeRun],
+}
+
+/// Which of the samples that are left are sync: all of them, or those with these numbers, from 1.
+#[derive(Clone, Copy)]
+pub(crate) enum Syncs<'a> {
+    All,
+    Numbers(&'a [u32]),
 }
 
 /// The places that are left: from this one on, so many samples of a chunk, then the chunks.

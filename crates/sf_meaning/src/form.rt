@@ -1,7 +1,7 @@
 ghost use Rattle.std.specs.Prelude.{◌≡◌, ◌+◌, ◌^◌, ◌<◌, ◌≤◌, OnOk, IfOk, length};
 ghost use Rattle.sf_meaning.specs.Reads.{piece, left, tiling_at, Gives};
 ghost use Rattle.sf_meaning.specs.Steps.{body_at};
-ghost use Rattle.sf_meaning.specs.Form.{known_stsd, narrow_header, box_here, expected_box, nothing_left, tables_form, stbl_form, dinf_form, minf_form, mdia_form, trak_form, udta_form, moov_form};
+ghost use Rattle.sf_meaning.specs.Form.{known_stsd, narrow_header, box_here, next_box, expected_box, behind_optional, nothing_left, places_form, sizes_form, tables_form, stbl_form, dinf_form, minf_form, mdia_form, trak_form, udta_form, moov_form};
 
 use crate::faults::{HeadFault, MovieFault, TableFault};
 use crate::found::{Found, Level, Rest};
@@ -74,7 +74,26 @@ fn box_here<'a>(level: Level, rest: Rest<'a>) -> Result<Found<'a>, Stop>
     }
 }
 
-// The box of a type that is expected next in a holder whose body begins at a place, and what is left behind it.
+// The next box in a holder whose body begins at a place, and what is left behind it.
+#[tactic(auto, unfolding(crate::specs::Form::next_box))]
+fn next_box<'a>(level: Level, holder: u64, rest: Rest<'a>) -> Result<(Found<'a>, Rest<'a>), Stop>
+    ensures { Gives (λ x. (piece x.0, left x.1)) result (next_box (tiling_at level) holder rest.entry.at rest.entry.bytes.now) }
+{
+    if rest.bytes.is_empty() {
+        return Err(not_yet(holder));
+    }
+    let found = box_here(level, rest)?;
+    let (_, behind) = rest.bytes.split_at(found.head.size as usize);
+    Ok((
+        found,
+        Rest {
+            at: rest.at + found.head.size,
+            bytes: behind,
+        },
+    ))
+}
+
+// The next box, which is to be of a type, and what is left behind it.
 #[tactic(auto, unfolding(crate::specs::Form::expected_box))]
 fn expected<'a>(
     level: Level,
@@ -84,21 +103,30 @@ fn expected<'a>(
 ) -> Result<(Found<'a>, Rest<'a>), Stop>
     ensures { Gives (λ x. (piece x.0, left x.1)) result (expected_box (tiling_at level) holder kind.0 rest.entry.at rest.entry.bytes.now) }
 {
-    if rest.bytes.is_empty() {
-        return Err(not_yet(holder));
-    }
-    let found = box_here(level, rest)?;
+    let (found, behind) = next_box(level, holder, rest)?;
     if found.head.kind != kind {
         return Err(not_yet(rest.at));
     }
+    Ok((found, behind))
+}
+
+// What is left behind a box that may stand next.
+#[tactic(auto, unfolding(crate::specs::Form::behind_optional))]
+fn behind_optional<'a>(level: Level, kind: FourCc, rest: Rest<'a>) -> Result<Rest<'a>, Stop>
+    ensures { Gives left result (behind_optional (tiling_at level) kind.0 rest.entry.at rest.entry.bytes.now) }
+{
+    if rest.bytes.is_empty() {
+        return Ok(rest);
+    }
+    let found = box_here(level, rest)?;
+    if found.head.kind != kind {
+        return Ok(rest);
+    }
     let (_, behind) = rest.bytes.split_at(found.head.size as usize);
-    Ok((
-        found,
-        Rest {
-            at: rest.at + found.head.size,
-            bytes: behind,
-        },
-    ))
+    Ok(Rest {
+        at: rest.at + found.head.size,
+        bytes: behind,
+    })
 }
 
 // No further box stands in a holder.
@@ -123,16 +151,38 @@ fn inside_of<'a>(holder: Found<'a>) -> Rest<'a>
     }
 }
 
+// The last table, with the places of the chunks (8.7.5).
+#[tactic(auto, unfolding(crate::specs::Form::places_form))]
+fn places_form(holder: u64, rest: Rest<'_>) -> Result<(), Stop>
+    ensures { Gives (λ _. tt) result (places_form holder rest.entry.at rest.entry.bytes.now) }
+{
+    let (places, behind) = next_box(Level::Tables, holder, rest)?;
+    let kind = places.head.kind;
+    if kind != FourCc(*b"stco") && kind != FourCc(*b"co64") {
+        return Err(not_yet(rest.at));
+    }
+    nothing_left(Level::Tables, behind)
+}
+
+// The tables of a track that stand behind those of its times.
+#[tactic(auto, unfolding(crate::specs::Form::sizes_form))]
+fn sizes_form(holder: u64, rest: Rest<'_>) -> Result<(), Stop>
+    ensures { Gives (λ _. tt) result (sizes_form holder rest.entry.at rest.entry.bytes.now) }
+{
+    let (_, rest) = expected(Level::Tables, holder, FourCc(*b"stsz"), rest)?;
+    let (_, rest) = expected(Level::Tables, holder, FourCc(*b"stsc"), rest)?;
+    places_form(holder, rest)
+}
+
 // The tables of a track, which stand behind the sample description box.
 #[tactic(auto, unfolding(crate::specs::Form::tables_form))]
 fn tables_form(holder: u64, rest: Rest<'_>) -> Result<(), Stop>
     ensures { Gives (λ _. tt) result (tables_form holder rest.entry.at rest.entry.bytes.now) }
 {
     let (_, rest) = expected(Level::Tables, holder, FourCc(*b"stts"), rest)?;
-    let (_, rest) = expected(Level::Tables, holder, FourCc(*b"stsz"), rest)?;
-    let (_, rest) = expected(Level::Tables, holder, FourCc(*b"stsc"), rest)?;
-    let (_, rest) = expected(Level::Tables, holder, FourCc(*b"stco"), rest)?;
-    nothing_left(Level::Tables, rest)
+    let rest = behind_optional(Level::Tables, FourCc(*b"ctts"), rest)?;
+    let rest = behind_optional(Level::Tables, FourCc(*b"stss"), rest)?;
+    sizes_form(holder, rest)
 }
 
 // The boxes of a sample table box (8.5.1).

@@ -32,5 +32,6 @@ pub(crate) struct TableBoxes<'a> {
     pub stts: Found<'a>,
     pub stsc: Found<'a>,
     pub stsz: Found<'a>,
-    pub stco: Found<'a>,
+    /// `stco` or `co64`.
+    pub places: Found<'a>,
 }

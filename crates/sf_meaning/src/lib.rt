@@ -2,16 +2,19 @@
 //!
 //! `specs/Movie.antt` says which movie a file's bytes are, or the first thing that is wrong with
 //! them; `specs/Joined.antt` says which samples a series of files holds; `specs/Layout.antt` says
-//! which bytes the writer gives a file. That a file that was laid out is read back is a law, which
-//! `layout_is_read_back` states. `plain_movie` and `plain_file` are the plain programs that compute
-//! the first of them: clear before fast, and linear in samples and boxes.
+//! which bytes the writer gives a file, and `specs/Stbl.antt` those of its tables. That a file that was
+//! laid out is read back is a law, which `layout_is_read_back` states. `plain_movie` and `plain_file`
+//! are the plain programs that compute the first of them: clear before fast, and linear in samples and
+//! boxes.
 #![tactic(auto)]
 
-ghost use Rattle.std.specs.Prelude.{◌≡◌, ℕ, List, [], ◌∷◌, map, Some, Ok};
+ghost use Rattle.std.specs.Prelude.{◌≡◌, ℕ, List, [], ◌∷◌, map, Some};
+ghost use Rattle.std.specs.Result.{IsOk};
 ghost use Rattle.sf_tick.specs.declared.types.Chunk.{Chunk};
 ghost use Rattle.sf_meaning.specs.Joined.{joined};
 ghost use Rattle.sf_meaning.specs.Layout.{held_as, layout, samples_of};
 ghost use Rattle.sf_meaning.specs.Entry.{aac_entry};
+ghost use Rattle.sf_meaning.specs.Movie.{movie};
 ghost use Rattle.sf_meaning.specs.Writable.{Writable};
 
 mod boxes;
@@ -40,6 +43,11 @@ pub use whole::plain_file;
 pub fn layout_is_read_back()
     ensures { (scale : ℕ) (chunks : List Chunk) → Writable scale aac_entry chunks
         → joined (layout scale aac_entry chunks ∷ []) 0 ≡ Some (map held_as (samples_of chunks)) }
+{}
+
+/// A file that was laid out is a movie: nothing is wrong with it.
+pub fn layout_is_movie()
+    ensures { (scale : ℕ) (chunks : List Chunk) → Writable scale aac_entry chunks → IsOk (movie (layout scale aac_entry chunks)) }
 {}
 
 #[cfg(test)]

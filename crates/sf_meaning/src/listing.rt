@@ -1,11 +1,11 @@
-ghost use Rattle.std.specs.Prelude.{◌≡◌, ℕ, ◌+◌, ◌*◌, ◌^◌, ◌<◌, ◌≤◌, ◌⊎◌, List, ◌∷◌, length, drop, IfOk};
+ghost use Rattle.std.specs.Prelude.{◌≡◌, ℕ, pos, neg_ℤ, ◌≤ℤ◌, ◌<ℤ◌, ◌+◌, ◌-◌, ◌*◌, ◌^◌, ◌<◌, ◌≤◌, ◌⊎◌, true, List, [], ◌∷◌, length, drop, get_or, Some, OnOk, IfOk};
 ghost use Rattle.sf_box.specs.Boxes.{word32};
-ghost use Rattle.sf_meaning.specs.Entries.{times_left, time_count, places_left, descriptions_left, place_count, sample_at};
+ghost use Rattle.sf_meaning.specs.Entries.{times_left, time_count, offsets_left, syncs_left, Rises, places_left, descriptions_left, place_count, sample_at};
 ghost use Rattle.sf_meaning.specs.Reads.{Gives};
-ghost use Rattle.sf_meaning.specs.Tables.{sample_count, sizes_in};
+ghost use Rattle.sf_meaning.specs.Tables.{offset_in, is_sync, rising, sample_count, sizes_in};
 ghost use Rattle.sf_meaning.specs.Movie.{rows, held_sample, held_samples};
 
-use crate::entries::{Places, Times};
+use crate::entries::{Offsets, Places, Syncs, Times};
 use crate::faults::MovieFault;
 use crate::movie::PlainSample;
 use crate::stop::Stop;
@@ -57,6 +57,94 @@ fn next_time<'a>(times: Times<'a>) -> (u64, Times<'a>)
     )
 }
 
+// The same offsets, with some left of the run where any are left at all.
+fn in_offset_run(offsets: Offsets<'_>) -> Offsets<'_>
+    ensures same { offsets_left result ≡ offsets_left offsets.entry }
+    ensures some { (0 < result.left) ⊎ (offsets_left result ≡ []) }
+{
+    let mut now = offsets;
+    while now.left == 0 {
+        let [run, others @ ..] = now.runs else {
+            return now;
+        };
+        now = Offsets {
+            version: now.version,
+            left: run.count,
+            word: run.delta,
+            runs: others,
+        };
+    }
+    now
+}
+
+// A composition offset (8.6.1.3), as it stands in a box of a version.
+fn offset_in(version: u8, word: u32) -> i64
+    ensures exact { result ≡ offset_in version word }
+    ensures least { neg_ℤ (pos (2 ^ 31)) ≤ℤ result }
+    ensures most { result <ℤ pos (2 ^ 32) }
+{
+    if version == 0 || word < 0x8000_0000 {
+        i64::from(word)
+    } else {
+        i64::from(word) - 0x1_0000_0000
+    }
+}
+
+// The next composition offset, which is 0 where none is left, and those behind it.
+fn next_offset<'a>(offsets: Offsets<'a>) -> (i64, Offsets<'a>)
+    ensures first { result.0 ≡ get_or (offsets_left offsets.entry) 0 (pos 0) }
+    ensures behind { offsets_left result.1 ≡ drop 1 (offsets_left offsets.entry) }
+    ensures least { neg_ℤ (pos (2 ^ 31)) ≤ℤ result.0 }
+    ensures most { result.0 <ℤ pos (2 ^ 32) }
+{
+    let now = in_offset_run(offsets);
+    if now.left == 0 {
+        return (0, now);
+    }
+    (
+        offset_in(now.version, now.word),
+        Offsets {
+            version: now.version,
+            left: now.left - 1,
+            word: now.word,
+            runs: now.runs,
+        },
+    )
+}
+
+// Whether a number is the next of numbers that rise, none of them below it, and the numbers behind it.
+fn next_number<'a>(numbers: &'a [u32], number: u32) -> (bool, &'a [u32])
+    requires rising { rising (number - 1) numbers.now ≡ true }
+    ensures here { result.0 ≡ is_sync (Some numbers.entry.now) number }
+    ensures behind { (later : ℕ) → number < later → is_sync (Some result.1.now) later ≡ is_sync (Some numbers.entry.now) later }
+    ensures rising { rising number result.1.now ≡ true }
+{
+    let [next, others @ ..] = numbers else {
+        return (false, numbers);
+    };
+    if *next == number {
+        (true, others)
+    } else {
+        (false, numbers)
+    }
+}
+
+// Whether the sample of a number, from 1, is sync, and which of those behind it are.
+fn next_sync<'a>(syncs: Syncs<'a>, number: u32) -> (bool, Syncs<'a>)
+    requires rising { Rises (number - 1) (syncs_left syncs) }
+    ensures here { result.0 ≡ is_sync (syncs_left syncs.entry) number }
+    ensures behind { (later : ℕ) → number < later → is_sync (syncs_left result.1) later ≡ is_sync (syncs_left syncs.entry) later }
+    ensures rising { Rises number (syncs_left result.1) }
+{
+    match syncs {
+        Syncs::All => (true, Syncs::All),
+        Syncs::Numbers(numbers) => {
+            let (sync, behind) = next_number(numbers, number);
+            (sync, Syncs::Numbers(behind))
+        }
+    }
+}
+
 // The same places, with some left of the chunk.
 fn in_chunk(places: Places<'_>) -> Places<'_>
     requires { 0 < place_count places }
@@ -71,7 +159,7 @@ fn in_chunk(places: Places<'_>) -> Places<'_>
             return now;
         };
         now = Places {
-            place: u64::from(chunk.place),
+            place: chunk.place,
             left: chunk.per,
             description: chunk.description,
             chunks: others,
@@ -95,43 +183,46 @@ fn size_at(stsz: &[u8], count: u32, i: u32) -> u32
     read_u32(stsz, 12 + 4 * i as usize)
 }
 
-// A sample at the next place, where it lies in the file and isn't too long. Samples count from 0.
-fn held_sample(
-    file_len: u64,
-    track: u32,
-    i: u32,
-    here: Places<'_>,
-    decode: u64,
-    size: u32,
-) -> Result<PlainSample, Stop>
-    requires { decode < 2 ^ 63 }
-    ensures held { Gives (λ sample. sample) result (held_sample file_len track i (sample_at here.entry decode size)) }
-    ensures same { IfOk result (λ sample. sample ≡ sample_at here.entry decode size) }
+// A sample at the next place.
+fn sample_at(here: Places<'_>, decode: u64, offset: i64, sync: bool, size: u32) -> PlainSample
+    requires decode { decode < 2 ^ 62 }
+    requires least { neg_ℤ (pos (2 ^ 31)) ≤ℤ offset }
+    requires most { offset <ℤ pos (2 ^ 32) }
+    ensures { result ≡ sample_at here.entry decode offset sync size }
 {
-    if here.place > file_len || u64::from(size) > file_len - here.place {
+    PlainSample {
+        decode,
+        compose: decode as i64 + offset,
+        sync,
+        place: here.place,
+        size,
+        description: here.description,
+    }
+}
+
+// The sample, where it lies in the file and isn't too long. Samples count from 0.
+fn held_sample(file_len: u64, track: u32, i: u32, sample: PlainSample) -> Result<PlainSample, Stop>
+    ensures held { Gives (λ sample. sample) result (held_sample file_len track i sample) }
+    ensures same { IfOk result (λ held. held ≡ sample) }
+    ensures within { OnOk result (sample.place + sample.size ≤ file_len) }
+{
+    if sample.place > file_len || u64::from(sample.size) > file_len - sample.place {
         return Err(Stop::Fault(MovieFault::SampleOutside {
             track,
             sample: u64::from(i),
         }));
     }
-    if size > 67_108_864 {
+    if sample.size > 67_108_864 {
         return Err(Stop::Fault(MovieFault::SampleTooLarge {
             track,
             sample: u64::from(i),
-            size,
+            size: sample.size,
         }));
     }
-    Ok(PlainSample {
-        decode,
-        compose: decode as i64,
-        sync: true,
-        place: here.place,
-        size,
-        description: here.description,
-    })
+    Ok(sample)
 }
 
-/// The samples with these sizes, times and places, which a file of so many bytes holds.
+/// The samples with these sizes, times, offsets and places, which a file of so many bytes holds.
 pub(crate) fn listed(
     alloc: Global,
     file_len: u64,
@@ -139,6 +230,8 @@ pub(crate) fn listed(
     stsz: &[u8],
     count: u32,
     times: Times<'_>,
+    offsets: Offsets<'_>,
+    syncs: Syncs<'_>,
     places: Places<'_>,
 ) -> Result<Items<PlainSample>, Stop>
     requires count { count ≡ sample_count stsz.now }
@@ -147,22 +240,35 @@ pub(crate) fn listed(
     requires table { (1 ≤ word32 (drop 4 stsz.now)) ⊎ (12 + 4 * count ≤ length stsz.now) }
     requires times { count ≤ time_count times }
     requires early { times.decode ≡ 0 }
+    requires rising { Rises 0 (syncs_left syncs) }
     requires places { count ≤ place_count places }
     ensures { Gives (λ samples. samples) result (held_samples file_len track
-        (rows (sizes_in stsz.now) (times_left times.entry) (places_left places.entry (sizes_in stsz.now)) (descriptions_left places.entry))) }
+        (rows 1 (sizes_in stsz.now) (times_left times.entry) (offsets_left offsets.entry) (syncs_left syncs.entry)
+        (places_left places.entry (sizes_in stsz.now)) (descriptions_left places.entry))) }
 {
     let mut samples = Items::new(alloc);
     let mut times = times;
+    let mut offsets = offsets;
+    let mut syncs = syncs;
     let mut places = places;
     for i in 0..count {
         let size = size_at(stsz, count, i);
         let (decode, later) = next_time(times);
+        let (offset, other) = next_offset(offsets);
+        let (sync, behind) = next_sync(syncs, i + 1);
         let here = in_chunk(places);
-        match held_sample(file_len, track, i, here, decode, size) {
+        match held_sample(
+            file_len,
+            track,
+            i,
+            sample_at(here, decode, offset, sync, size),
+        ) {
             Ok(sample) => samples.push(sample)?,
             Err(stop) => return Err(stop),
         }
         times = later;
+        offsets = other;
+        syncs = behind;
         places = Places {
             place: here.place + u64::from(size),
             left: here.left - 1,

@@ -1,21 +1,21 @@
-ghost use Rattle.std.specs.Prelude.{◌≡◌, ℕ, ◌+◌, ◌*◌, ◌^◌, ◌<◌, ◌≤◌, ◌⊎◌, true, length, drop, OnOk, IfOk, IfErr, Ok, Err};
+ghost use Rattle.std.specs.Prelude.{◌≡◌, ℕ, ◌+◌, ◌*◌, ◌^◌, ◌<◌, ◌≤◌, ◌⊎◌, true, length, drop, map, OnOk, IfOk, IfErr, Ok, Err, if◌then◌else◌};
 ghost use Rattle.sf_box.specs.Boxes.{word32};
-ghost use Rattle.sf_meaning.specs.Entries.{spreads_as};
+ghost use Rattle.sf_meaning.specs.Entries.{time_runs, offsets_left, syncs_left, spreads_as};
 ghost use Rattle.sf_meaning.specs.Reads.{piece, pieces, Gives};
-ghost use Rattle.sf_meaning.specs.Tables.{count_in, spreads_in, sample_count};
-ghost use Rattle.sf_meaning.specs.Movie.{begins_rising, times_table, chunks_table, sizes_table, places_table, tables_in, table_in, media_in, information_in, track_in, tracks_in, not_compressed, few_tracks, tracks_of, in_moov, movie_header, movie_in};
+ghost use Rattle.sf_meaning.specs.Tables.{count_in, expand, offset_in, spreads_in, sample_count};
+ghost use Rattle.sf_meaning.specs.Movie.{begins_rising, times_table, chunks_table, sizes_table, places_box, is_wide, places_table, tables_in, table_in, media_in, information_in, track_in, tracks_in, not_compressed, few_tracks, tracks_of, in_moov, movie_header, movie_in};
 
 use crate::boxes::{boxes_in, first, in_table, inside, needed_head, needed_table, of_kind};
 use crate::chunks::chunks_at;
-use crate::entries::ChunkRun;
-use crate::faults::{HeadFault, MovieFault};
+use crate::entries::{ChunkRun, Offsets, Syncs, TimeRun};
+use crate::faults::{HeadFault, MovieFault, TableFault};
 use crate::form::moov_form;
 use crate::found::{Found, Rest, TableBoxes};
 use crate::headers::{kind, references, start_us, timescale};
 use crate::movie::{PlainMovie, PlainSample, PlainTrack, TrackKind};
 use crate::samples::samples_held;
 use crate::stop::Stop;
-use crate::tables::{chunk_runs, counted, sample_count, time_runs};
+use crate::tables::{chunk_runs, counted, offset_runs, sample_count, sync_numbers, time_runs};
 use sf_box::{BoxFault, ChildrenFault, FourCc};
 use sf_list::Items;
 use std::alloc::Global;
@@ -62,20 +62,60 @@ fn sizes_table<'a>(stbl: Found<'a>, boxes: &[Found<'a>]) -> Result<(Found<'a>, u
     Ok((stsz, count))
 }
 
-// The chunk offset box (8.7.5), and how many places it holds.
-#[tactic(auto, unfolding(crate::specs::Movie::places_table))]
-fn places_table<'a>(stbl: Found<'a>, boxes: &[Found<'a>]) -> Result<(Found<'a>, u32), Stop>
-    ensures found { Gives (λ x. piece x.0) result (places_table (piece stbl.entry) (pieces boxes.now)) }
-    ensures count { IfOk result (λ x. x.1 ≡ count_in x.0.body.now) }
-    ensures long { IfOk result (λ x. 8 + 4 * x.1 ≤ length x.0.body.now) }
+// The chunk offset box (8.7.5): stco, or co64 where there is none.
+fn places_box<'a>(stbl: Found<'a>, boxes: &[Found<'a>]) -> Result<Found<'a>, Stop>
+    ensures { Gives piece result (places_box (piece stbl.entry) (pieces boxes.now)) }
 {
-    let stco = needed_table(stbl, FourCc(*b"stco"), boxes)?;
-    let count = counted(4, stco)?;
-    Ok((stco, count))
+    if let Some(stco) = first(boxes, FourCc(*b"stco")) {
+        return Ok(stco);
+    }
+    match first(boxes, FourCc(*b"co64")) {
+        Some(co64) => Ok(co64),
+        None => Err(Stop::Fault(MovieFault::Table(TableFault::Missing {
+            kind: FourCc(*b"stco"),
+            at: stbl.head.at + stbl.head.head,
+        }))),
+    }
+}
+
+// The same box, whether its places have eight bytes, and how many it holds.
+#[tactic(auto, unfolding(crate::specs::Movie::places_table))]
+fn places_table<'a>(stbl: Found<'a>, boxes: &[Found<'a>]) -> Result<(Found<'a>, bool, u32), Stop>
+    ensures found { Gives (λ x. piece x.0) result (places_table (piece stbl.entry) (pieces boxes.now)) }
+    ensures wide { IfOk result (λ x. x.1 ≡ is_wide (piece x.0)) }
+    ensures count { IfOk result (λ x. x.2 ≡ count_in x.0.body.now) }
+    ensures long { IfOk result (λ x. 8 + (if x.1 then 8 else 4) * x.2 ≤ length x.0.body.now) }
+{
+    let places = places_box(stbl, boxes)?;
+    let wide = places.head.kind == FourCc(*b"co64");
+    let count = counted(if wide { 8 } else { 4 }, places)?;
+    Ok((places, wide, count))
+}
+
+// All the offsets of runs.
+fn offsets_from(version: u8, runs: &[TimeRun]) -> Offsets<'_>
+    ensures { offsets_left result ≡ map (offset_in version) (expand (time_runs runs.now)) }
+{
+    Offsets {
+        version,
+        left: 0,
+        word: 0,
+        runs,
+    }
+}
+
+// All the sync samples, by their numbers.
+fn syncs_from(numbers: &Option<Items<u32>>) -> Syncs<'_>
+    ensures { syncs_left result ≡ numbers.now }
+{
+    match numbers {
+        None => Syncs::All,
+        Some(numbers) => Syncs::Numbers(numbers.as_slice()),
+    }
 }
 
 // The samples of a sample table box (8.5.1).
-#[tactic(auto, unfolding(crate::specs::Movie::tables_in))]
+#[tactic(auto, unfolding(crate::specs::Movie::tables_in, crate::specs::Movie::tables_told))]
 fn tables_in(
     alloc: Global,
     file_len: u64,
@@ -87,18 +127,24 @@ fn tables_in(
     ensures { Gives (λ samples. samples) result (tables_in file_len number scale 1 (piece stbl.entry) (pieces boxes.now)) }
 {
     let (stts, times) = times_table(stbl, boxes)?;
+    let (version, words) = offset_runs(alloc, first(boxes, FourCc(*b"ctts")))?;
     let (stsc, spread) = chunks_table(alloc, stbl, boxes)?;
     let (stsz, count) = sizes_table(stbl, boxes)?;
-    let (stco, places) = places_table(stbl, boxes)?;
+    let (places, wide, held) = places_table(stbl, boxes)?;
+    let numbers = sync_numbers(alloc, first(boxes, FourCc(*b"stss")))?;
     let runs = time_runs(alloc, stts.body, times)?;
-    let chunks = chunks_at(alloc, &spread, stco.body, places)?;
+    let chunks = chunks_at(alloc, &spread, places.body, wide, held)?;
     let boxes = TableBoxes {
         stts,
         stsc,
         stsz,
-        stco,
+        places,
     };
-    samples_held(alloc, file_len, number, scale, boxes, &runs, &chunks, count)
+    let offsets = offsets_from(version, &words);
+    let syncs = syncs_from(&numbers);
+    samples_held(
+        alloc, file_len, number, scale, boxes, &runs, offsets, syncs, &chunks, count,
+    )
 }
 
 // What a sample table box says of the track's kind, and its samples.

@@ -1,11 +1,11 @@
 ghost use Rattle.std.specs.Prelude.{◌≡◌, ◌==◌, ◌&&◌, not, ℕ, ◌+◌, ◌-◌, ◌*◌, ◌^◌, ◌<◌, ◌≤◌, ◌⊎◌, nat_le, OnOk, length, take, drop, sum, map, replicate};
 ghost use Rattle.sf_box.specs.Boxes.{word32};
-ghost use Rattle.sf_meaning.specs.Entries.{time_runs, held_as_listed, places_as};
-ghost use Rattle.sf_meaning.specs.Reads.{piece, Gives};
+ghost use Rattle.sf_meaning.specs.Entries.{time_runs, offsets_left, syncs_left, Rises, held_as_listed, places_as};
+ghost use Rattle.sf_meaning.specs.Reads.{piece, tables_as, Gives};
 ghost use Rattle.sf_meaning.specs.Tables.{expand, run_pairs, count_in, spreads_in, places_in, sample_count, chunk_entries, described};
-ghost use Rattle.sf_meaning.specs.Movie.{descriptions_known, samples_said, samples_held};
+ghost use Rattle.sf_meaning.specs.Movie.{descriptions_known, is_wide, samples_said, samples_held};
 
-use crate::entries::{ChunkAt, Places, TimeRun, Times};
+use crate::entries::{ChunkAt, Offsets, Places, Syncs, TimeRun, Times};
 use crate::faults::{MovieFault, TableFault};
 use crate::found::{Found, TableBoxes};
 use crate::listing::listed;
@@ -144,18 +144,21 @@ pub(crate) fn samples_held(
     scale: u32,
     boxes: TableBoxes<'_>,
     runs: &[TimeRun],
+    offsets: Offsets<'_>,
+    syncs: Syncs<'_>,
     chunks: &[ChunkAt],
     count: u32,
 ) -> Result<Items<PlainSample>, Stop>
     requires runs { time_runs runs.now ≡ run_pairs (count_in boxes.stts.body.now) (drop 8 boxes.stts.body.now) }
-    requires held { held_as_listed chunks.now ≡ chunk_entries (spreads_in boxes.stsc.body.now) (count_in boxes.stco.body.now) }
-    requires places { places_as chunks.now ≡ take (length chunks.now) (places_in boxes.stco.body.now) }
+    requires rising { Rises 0 (syncs_left syncs) }
+    requires held { held_as_listed chunks.now ≡ chunk_entries (spreads_in boxes.stsc.body.now) (count_in boxes.places.body.now) }
+    requires places { places_as chunks.now ≡ take (length chunks.now) (places_in (is_wide (piece boxes.places)) boxes.places.body.now) }
     requires count { count ≡ sample_count boxes.stsz.body.now }
     requires few { count ≤ 16777216 }
     requires fields { 12 ≤ length boxes.stsz.body.now }
     requires table { (1 ≤ word32 (drop 4 boxes.stsz.body.now)) ⊎ (12 + 4 * count ≤ length boxes.stsz.body.now) }
     ensures { Gives (λ samples. samples) result (samples_held file_len number scale 1
-        (piece boxes.entry.stts) (piece boxes.entry.stsc) (piece boxes.entry.stsz) (piece boxes.entry.stco)) }
+        (tables_as boxes.entry (offsets_left offsets.entry) (syncs_left syncs.entry))) }
 {
     say_samples(scale, count, boxes.stts, boxes.stsc, runs, chunks)?;
     let times = Times {
@@ -177,6 +180,8 @@ pub(crate) fn samples_held(
         boxes.stsz.body,
         count,
         times,
+        offsets,
+        syncs,
         places,
     )
 }

@@ -1,15 +1,16 @@
-ghost use Rattle.std.specs.Prelude.{◌≡◌, ℕ, ◌+◌, ◌*◌, ◌^◌, ◌<◌, ◌≤◌, ◌⊎◌, length, take, drop, true, OnOk, IfOk};
+ghost use Rattle.std.specs.Prelude.{◌≡◌, ℕ, ◌+◌, ◌*◌, ◌^◌, ◌<◌, ◌≤◌, ◌⊎◌, length, take, drop, true, OnOk, IfOk, map};
 ghost use Rattle.sf_box.specs.Boxes.{word32};
-ghost use Rattle.sf_meaning.specs.Entries.{time_runs, spreads_as, held_as_listed, places_as};
-ghost use Rattle.sf_meaning.specs.Reads.{piece, Gives};
-ghost use Rattle.sf_meaning.specs.Tables.{count_in, expand, run_pairs, spreads_in, spreads, sample_count, chunk_entries, places_in, described, words};
-ghost use Rattle.sf_meaning.specs.Movie.{counted, begins_rising, spread_in_order, sizes_whole, descriptions_known};
+ghost use Rattle.sf_meaning.specs.Entries.{time_runs, spreads_as, Rises};
+ghost use Rattle.sf_meaning.specs.Reads.{piece, maybe_piece, Gives};
+ghost use Rattle.sf_meaning.specs.Tables.{count_in, expand, run_pairs, offset_in, words, rising, spreads_in, spreads, sample_count};
+ghost use Rattle.sf_meaning.specs.Movie.{counted, offsets_told, sync_told, begins_rising, spread_in_order, sizes_whole};
 
-use crate::entries::{ChunkAt, ChunkRun, TimeRun};
+use crate::entries::{ChunkRun, TimeRun};
 use crate::faults::{MovieFault, TableFault};
 use crate::found::Found;
 use crate::stop::Stop;
 use sf_box::read_u32;
+use sf_list::Items;
 use std::alloc::{AllocError, Global};
 
 // A table whose body ends before its last entry, or whose entries end before the last sample.
@@ -40,7 +41,7 @@ pub(crate) fn counted(width: u32, table: Found<'_>) -> Result<u32, Stop>
     Ok(count)
 }
 
-/// The runs of a decoding time box, which holds so many.
+/// The runs of a decoding time box, or of a composition offset box, which holds so many.
 pub(crate) fn time_runs(alloc: Global, stts: &[u8], count: u32) -> Result<Vec<TimeRun>, AllocError>
     requires { 8 + 8 * count ≤ length stts.now }
     ensures { IfOk result (λ runs. time_runs runs.items ≡ run_pairs count (drop 8 stts.now)) }
@@ -53,6 +54,71 @@ pub(crate) fn time_runs(alloc: Global, stts: &[u8], count: u32) -> Result<Vec<Ti
         })?;
     }
     Ok(runs)
+}
+
+/// The version of a composition offset box (8.6.1.3) and its runs, none without the box.
+#[tactic(auto, unfolding(crate::specs::Movie::offsets_told))]
+pub(crate) fn offset_runs(
+    alloc: Global,
+    ctts: Option<Found<'_>>,
+) -> Result<(u8, Vec<TimeRun>), Stop>
+    ensures { Gives (λ x. map (offset_in x.0) (expand (time_runs x.1.items))) result (offsets_told (maybe_piece ctts.entry)) }
+{
+    let Some(ctts) = ctts else {
+        return Ok((0, Vec::new(alloc)));
+    };
+    let count = counted(8, ctts)?;
+    let runs = time_runs(alloc, ctts.body, count)?;
+    Ok((ctts.body[0], runs))
+}
+
+// Whether numbers rise, the first above 0.
+fn are_rising(numbers: &[u32]) -> bool
+    ensures { result ≡ rising 0 numbers.now }
+{
+    let mut last = 0;
+    for number in numbers {
+        if *number <= last {
+            return false;
+        }
+        last = *number;
+    }
+    true
+}
+
+// The numbers of a table, which holds so many.
+fn all_numbers(alloc: Global, table: &[u8], count: u32) -> Result<Vec<u32>, AllocError>
+    requires { 8 + 4 * count ≤ length table.now }
+    ensures { IfOk result (λ numbers. numbers.items ≡ words count (drop 8 table.now)) }
+{
+    let mut numbers = Vec::new(alloc);
+    for i in 0..count as usize {
+        numbers.push(read_u32(table, 8 + 4 * i))?;
+    }
+    Ok(numbers)
+}
+
+/// The numbers of a sync sample box (8.6.2), in order and from 1, where there is one.
+#[tactic(auto, unfolding(crate::specs::Movie::sync_told))]
+pub(crate) fn sync_numbers(
+    alloc: Global,
+    stss: Option<Found<'_>>,
+) -> Result<Option<Items<u32>>, Stop>
+    ensures told { Gives (λ numbers. numbers) result (sync_told (maybe_piece stss.entry)) }
+    ensures rising { IfOk result (λ numbers. Rises 0 numbers) }
+{
+    let Some(stss) = stss else {
+        return Ok(None);
+    };
+    let count = counted(4, stss)?;
+    let numbers = all_numbers(alloc, stss.body, count)?;
+    if !are_rising(&numbers) {
+        return Err(Stop::Fault(MovieFault::Table(TableFault::NotRising {
+            kind: stss.head.kind,
+            at: stss.head.at,
+        })));
+    }
+    Ok(Some(Items::from_vec(numbers)))
 }
 
 /// The entries of a sample-to-chunk box, in order.

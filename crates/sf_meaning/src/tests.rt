@@ -6,6 +6,7 @@ use sf_list::Bytes;
 use std::alloc::{AllocError, Global};
 
 mod changes;
+mod optional;
 mod tables;
 
 /// A file of three AAC samples of four bytes, 1024 ticks apart: `ftyp` at 0, `mdat` at 24, `moov` at 52.

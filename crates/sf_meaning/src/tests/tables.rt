@@ -3,16 +3,19 @@
 use super::*;
 use std::test::Fail;
 
-const STTS: FourCc = FourCc(*b"stts");
+pub(super) const STTS: FourCc = FourCc(*b"stts");
 
-const STSZ: FourCc = FourCc(*b"stsz");
+pub(super) const STSZ: FourCc = FourCc(*b"stsz");
 
-const STSC: FourCc = FourCc(*b"stsc");
+pub(super) const STSC: FourCc = FourCc(*b"stsc");
 
-const STCO: FourCc = FourCc(*b"stco");
+pub(super) const STCO: FourCc = FourCc(*b"stco");
 
 /// The body of a movie box with these tables, of a track with so many ticks a second. `stts` stands at 524.
-fn moov_of(alloc: Global, tables: &[(FourCc, &[u8], &[u8])]) -> Result<Bytes, AllocError> {
+pub(super) fn moov_of(
+    alloc: Global,
+    tables: &[(FourCc, &[u8], &[u8])],
+) -> Result<Bytes, AllocError> {
     let tables = boxes(alloc, tables)?;
     let stbl = boxes(
         alloc,
@@ -36,7 +39,7 @@ fn moov_of(alloc: Global, tables: &[(FourCc, &[u8], &[u8])]) -> Result<Bytes, Al
     Ok(moov)
 }
 
-fn read(
+pub(super) fn read(
     alloc: Global,
     tables: &[(FourCc, &[u8], &[u8])],
     file_len: u64,
@@ -45,19 +48,20 @@ fn read(
     Ok(plain_movie(alloc, moov.as_slice(), 60, file_len))
 }
 
-const FIELDS: &[u8] = b"\0\0\0\0";
+pub(super) const FIELDS: &[u8] = b"\0\0\0\0";
 
-const TIMES: &[u8] = b"\0\0\0\x01\0\0\0\x03\0\0\x04\0";
+pub(super) const TIMES: &[u8] = b"\0\0\0\x01\0\0\0\x03\0\0\x04\0";
 
-const FOUR_TIMES: &[u8] = b"\0\0\0\x01\0\0\0\x04\0\0\x04\0";
+pub(super) const FOUR_TIMES: &[u8] = b"\0\0\0\x01\0\0\0\x04\0\0\x04\0";
 
-const SIZES: &[u8] = b"\0\0\0\0\0\0\0\x03\0\0\0\x0a\0\0\0\x14\0\0\0\x1e";
+pub(super) const SIZES: &[u8] = b"\0\0\0\0\0\0\0\x03\0\0\0\x0a\0\0\0\x14\0\0\0\x1e";
 
-const FOUR_SIZES: &[u8] = b"\0\0\0\0\0\0\0\x04\0\0\0\x0a\0\0\0\x14\0\0\0\x1e\0\0\0\x28";
+pub(super) const FOUR_SIZES: &[u8] = b"\0\0\0\0\0\0\0\x04\0\0\0\x0a\0\0\0\x14\0\0\0\x1e\0\0\0\x28";
 
-const SPREAD: &[u8] = b"\0\0\0\x02\0\0\0\x01\0\0\0\x02\0\0\0\x01\0\0\0\x02\0\0\0\x01\0\0\0\x01";
+pub(super) const SPREAD: &[u8] =
+    b"\0\0\0\x02\0\0\0\x01\0\0\0\x02\0\0\0\x01\0\0\0\x02\0\0\0\x01\0\0\0\x01";
 
-const PLACES: &[u8] = b"\0\0\0\x02\0\0\0\x64\0\0\0\xc8";
+pub(super) const PLACES: &[u8] = b"\0\0\0\x02\0\0\0\x64\0\0\0\xc8";
 
 #[test]
 fn samples_lie_in_their_chunks(rt: HostRuntime) -> Result<(), Fail> {

@@ -1,0 +1,126 @@
+-- Chunks of stored samples that stand one after the other in a file, as rows of its tables.
+use Rattle.std.proofs.Common.{◌≡◌, ℕ, pos, ◌+ℤ◌, ◌-ℤ◌, ◌+◌, ◌-◌, ◌*◌, ◌^◌, ◌<◌, ◌≤◌, List, [], ◌∷◌, ◌++◌, length, take, drop, map, Ok, refl, subst, sym, ap, ◌∙◌, append_assoc, arith}
+use Rattle.std.specs.List.{AllByRecursion}
+use Rattle.std.proofs.lemmas.List.{map-append, length-append, length-map, drop-drop, take_at, drop_at}
+use Rattle.std.proofs.lemmas.List.Concat.{flat_map-append}
+use Rattle.std.proofs.lemmas.Bool.{le-leb}
+use Rattle.std.proofs.lemmas.Int.{ints}
+use Rattle.std.proofs.Math.Nat.{mul-le-mul_left}
+use Rattle.sf_tick.specs.Tick.{tick}
+use Rattle.sf_tick.specs.declared.types.Stored.{Stored}
+use Rattle.sf_tick.specs.declared.types.Chunk.{Chunk}
+use Rattle.sf_meaning.specs.Joined.{Held, later}
+use Rattle.sf_meaning.specs.Movie.{held_in}
+use Rattle.sf_meaning.specs.Stbl.{Timed, timed_of, ticks_of, places_in_rows, duration_in_rows}
+use Rattle.sf_meaning.specs.Layout.{samples_of, stored_bytes, decodes_of, held_as, timed, rows_from, rows_of, first_dts}
+use Rattle.sf_meaning.specs.Writable.{IsWritable, PacedFrom, Writable}
+use Rattle.sf_meaning.specs.declared.movie.PlainSample.{PlainSample}
+use Rattle.sf_meaning.proofs.ListLemmas.{all_front, all_behind}
+use Rattle.sf_meaning.proofs.TableLemmas.{Wide}
+use Rattle.sf_meaning.proofs.RowLemmas.{samples_at, listed}
+use Rattle.sf_meaning.proofs.TablesRead.{Sized, Tellable}
+
+stored-append : (ss ts : List Stored) → stored_bytes (ss ++ ts) ≡ stored_bytes ss ++ stored_bytes ts
+stored-append ss ts = flat_map-append (λ (s : Stored). s.bytes) ss ts
+
+pub length-stored : (ss ts : List Stored) → length (stored_bytes (ss ++ ts)) ≡ length (stored_bytes ss) + length (stored_bytes ts)
+length-stored ss ts = ap length (stored-append ss ts) ∙ length-append (stored_bytes ss) (stored_bytes ts)
+
+-- what the tables list of chunks
+pub timed_rows : (at : ℕ) (chunks : List Chunk) → timed_of (rows_from at chunks) ≡ map timed (samples_of chunks)
+timed_rows at [] = refl
+timed_rows at (c ∷ cs) =
+    ap (λ (ts : List Timed). map timed c.samples ++ ts) (timed_rows (at + length (stored_bytes c.samples)) cs) ∙ sym (map-append timed c.samples (samples_of cs))
+
+decodes_timed : (ss : List Stored) → map (λ s. s.decode) (map timed ss) ≡ decodes_of ss
+decodes_timed [] = refl
+decodes_timed (s ∷ ss) = ap (λ (ts : List ℕ). s.decode ∷ ts) (decodes_timed ss)
+
+pub ticks_rows : (at : ℕ) (chunks : List Chunk) → ticks_of (rows_from at chunks) ≡ decodes_of (samples_of chunks)
+ticks_rows at chunks = ap (λ (ts : List Timed). map (λ (s : Timed). s.decode) ts) (timed_rows at chunks) ∙ decodes_timed (samples_of chunks)
+
+rows_filled : (at : ℕ) (chunks : List Chunk) → AllByRecursion (λ c. 0 < length c.samples) chunks → AllByRecursion (λ r. 0 < length r.samples) (rows_from at chunks)
+rows_filled at [] all = tt
+rows_filled at (c ∷ cs) all = (omega (arith, all.0, length-map c.samples timed), rows_filled (at + length (stored_bytes c.samples)) cs all.1)
+
+all_sized : (ss : List Stored) → AllByRecursion IsWritable ss → AllByRecursion Sized (map timed ss)
+all_sized [] all = tt
+all_sized (s ∷ ss) all = (record { some = all.0.some; short = all.0.short; near = (all.0.early, all.0.late) }, all_sized ss all.1)
+
+-- chunks that end below 2^64 begin below it
+places_wide : (at : ℕ) (chunks : List Chunk) → at + length (stored_bytes (samples_of chunks)) < 2 ^ 64 → AllByRecursion Wide (places_in_rows (rows_from at chunks))
+places_wide at [] lt = tt
+places_wide at (c ∷ cs) lt =
+    let long : length (stored_bytes (c.samples ++ samples_of cs)) ≡ length (stored_bytes c.samples) + length (stored_bytes (samples_of cs)) = length-stored c.samples (samples_of cs) in
+    (omega (arith, lt), places_wide (at + length (stored_bytes c.samples)) cs (omega (arith, lt, long)))
+
+-- the tables can say writable chunks
+pub tellable_of : (scale : ℕ) (entry : List ℕ) (chunks : List Chunk) → Writable scale entry chunks → Tellable scale (tick (first_dts (samples_of chunks)) scale) (rows_of chunks)
+tellable_of scale entry chunks w =
+    let same : timed_of (rows_of chunks) ≡ map timed (samples_of chunks) = timed_rows 40 chunks in
+    let n : length (timed_of (rows_of chunks)) ≡ length (samples_of chunks) = ap length same ∙ length-map (samples_of chunks) timed in
+    let d : duration_in_rows (rows_of chunks) < 2 ^ 32 - 1 = w.duration in
+    let long : 2 ^ 32 ≤ 2 ^ 40 * scale = omega (arith, mul-le-mul_left (2 ^ 40) w.scale_some) in
+    record {
+      filled = rows_filled 40 chunks w.filled;
+      each = rw same (all_sized (samples_of chunks) w.each);
+      paced = subst (PacedFrom (tick (first_dts (samples_of chunks)) scale)) (sym (ticks_rows 40 chunks)) w.paced;
+      few = omega (arith, n, w.few);
+      early = omega (arith, d, long);
+      places = places_wide 40 chunks w.payload;
+    }
+
+chunk_held : (bytes track base place : ℕ) (ss : List Stored) (rest : List PlainSample) → place + length (stored_bytes ss) ≤ bytes → AllByRecursion IsWritable ss
+    → ((j : ℕ) → held_in bytes track j rest ≡ Ok tt) → (i : ℕ) → held_in bytes track i (samples_at base place (map timed ss) ++ rest) ≡ Ok tt
+chunk_held bytes track base place [] rest le all more i = more i
+chunk_held bytes track base place (s ∷ ss) rest le all more i =
+    let long : length (s.bytes ++ stored_bytes ss) ≡ length s.bytes + length (stored_bytes ss) = length-append s.bytes (stored_bytes ss) in
+    rw (le-leb (place + length s.bytes) bytes (omega (arith, le, long)), le-leb (length s.bytes) 67108864 all.0.short)
+    (chunk_held bytes track base (place + length s.bytes) ss rest (omega (arith, le, long)) all.1 more (i + 1))
+
+-- a file holds the samples of chunks that end in it
+pub chunks_held : (bytes track base at : ℕ) (chunks : List Chunk) → at + length (stored_bytes (samples_of chunks)) ≤ bytes → AllByRecursion IsWritable (samples_of chunks)
+    → (i : ℕ) → held_in bytes track i (listed base (rows_from at chunks)) ≡ Ok tt
+chunks_held bytes track base at [] le all i = refl
+chunks_held bytes track base at (c ∷ cs) le all i =
+    let long : length (stored_bytes (c.samples ++ samples_of cs)) ≡ length (stored_bytes c.samples) + length (stored_bytes (samples_of cs)) = length-stored c.samples (samples_of cs) in
+    chunk_held bytes track base at c.samples (listed base (rows_from (at + length (stored_bytes c.samples)) cs)) (omega (arith, le, long)) (all_front IsWritable c.samples (samples_of cs) all)
+    (chunks_held bytes track base (at + length (stored_bytes c.samples)) cs (omega (arith, le, long)) (all_behind IsWritable c.samples (samples_of cs) all)) i
+
+-- listed samples with their bytes, so many ticks later
+abbrev pub shown : List ℕ → ℕ → List PlainSample → List Held
+shown file by samples = later by (map (λ s. record { decode = s.decode; compose = s.compose; sync = s.sync; bytes = take s.size (drop s.place file) }) samples)
+
+shown-append : (file : List ℕ) (by : ℕ) (xs ys : List PlainSample) → shown file by (xs ++ ys) ≡ shown file by xs ++ shown file by ys
+shown-append file by [] ys = refl
+shown-append file by (x ∷ xs) ys =
+    ap (λ (hs : List Held). record { decode = x.decode + by; compose = x.compose +ℤ pos by; sync = x.sync; bytes = take x.size (drop x.place file) } ∷ hs) (shown-append file by xs ys)
+
+chunk_shown : (file : List ℕ) (by place : ℕ) (ss : List Stored) (rest : List ℕ) → drop place file ≡ stored_bytes ss ++ rest → AllByRecursion (λ s. by ≤ s.decode) (map timed ss)
+    → shown file by (samples_at by place (map timed ss)) ≡ map held_as ss
+chunk_shown file by place [] rest e above = refl
+chunk_shown file by place (s ∷ ss) rest e above =
+    let front : drop place file ≡ s.bytes ++ (stored_bytes ss ++ rest) = e ∙ append_assoc s.bytes (stored_bytes ss) rest in
+    let first : take (length s.bytes) (drop place file) ≡ s.bytes = ap (take (length s.bytes)) front ∙ take_at s.bytes (stored_bytes ss ++ rest) (length s.bytes) refl in
+    let behind : drop (place + length s.bytes) file ≡ stored_bytes ss ++ rest =
+    sym (drop-drop (length s.bytes) place file) ∙ ap (drop (length s.bytes)) front ∙ drop_at s.bytes (stored_bytes ss ++ rest) (length s.bytes) refl in
+    let decode : s.decode - by + by ≡ s.decode = omega (arith, above.0) in
+    let compose : (pos s.compose -ℤ pos by) +ℤ pos by ≡ pos s.compose = omega (arith, ints) in
+    rw (first, decode, compose) (ap (λ (hs : List Held). held_as s ∷ hs) (chunk_shown file by (place + length s.bytes) ss rest behind above.1))
+
+-- the samples of chunks that stand in a file are the stored ones, each once, in order
+pub chunks_shown : (file : List ℕ) (by at : ℕ) (chunks : List Chunk) (rest : List ℕ) → drop at file ≡ stored_bytes (samples_of chunks) ++ rest
+    → AllByRecursion (λ s. by ≤ s.decode) (timed_of (rows_from at chunks)) → shown file by (listed by (rows_from at chunks)) ≡ map held_as (samples_of chunks)
+chunks_shown file by at [] rest e above = refl
+chunks_shown file by at (c ∷ cs) rest e above =
+    let ss : List Stored = c.samples in
+    let next : ℕ = at + length (stored_bytes ss) in
+    let more : List ℕ = stored_bytes (samples_of cs) ++ rest in
+    let front : drop at file ≡ stored_bytes ss ++ more =
+    e ∙ ap (λ (b : List ℕ). b ++ rest) (stored-append ss (samples_of cs)) ∙ append_assoc (stored_bytes ss) (stored_bytes (samples_of cs)) rest in
+    let behind : drop next file ≡ more =
+    sym (drop-drop (length (stored_bytes ss)) at file) ∙ ap (drop (length (stored_bytes ss))) front ∙ drop_at (stored_bytes ss) more (length (stored_bytes ss)) refl in
+    shown-append file by (samples_at by at (map timed ss)) (listed by (rows_from next cs))
+    ∙ ap (λ (hs : List Held). hs ++ shown file by (listed by (rows_from next cs))) (chunk_shown file by at ss more front (all_front (λ (s : Timed). by ≤ s.decode) (map timed ss) (timed_of (rows_from next cs)) above))
+    ∙ ap (λ (hs : List Held). map held_as ss ++ hs) (chunks_shown file by next cs rest behind (all_behind (λ (s : Timed). by ≤ s.decode) (map timed ss) (timed_of (rows_from next cs)) above))
+    ∙ sym (map-append held_as ss (samples_of cs))
