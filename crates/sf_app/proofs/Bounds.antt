@@ -4,7 +4,8 @@ use Rattle.std.proofs.lemmas.List.{length-append, length-map}
 use Rattle.std.proofs.lemmas.List.Sums.{sum_by-cons}
 use Rattle.sf_tick.specs.Tick.{tick}
 use Rattle.sf_tick.specs.declared.types.Stored.{Stored}
-use Rattle.sf_meaning.specs.Layout.{stored_bytes, decodes_of, differences, deltas_of}
+use Rattle.sf_meaning.specs.Layout.{stored_bytes, decodes_of}
+use Rattle.sf_meaning.specs.Stbl.{differences, deltas_of}
 use Rattle.sf_meaning.specs.Writable.{Paced}
 use Rattle.sf_app.specs.Narrow.{AreNarrow}
 use Rattle.sf_app.specs.Tables.{ArePaced, TablesFit}

@@ -7,7 +7,8 @@ use Rattle.sf_box.specs.Boxes.{be32, box_of}
 use Rattle.sf_box.proofs.Numbers.{length-be32, length-be64, length-box_of, length-opened}
 use Rattle.sf_tick.specs.declared.types.Stored.{Stored}
 use Rattle.sf_meaning.specs.Tables.{Spread}
-use Rattle.sf_meaning.specs.Layout.{stored_bytes, run_bytes, spread_bytes, in_front, runs_of}
+use Rattle.sf_meaning.specs.Layout.{stored_bytes}
+use Rattle.sf_meaning.specs.Stbl.{run_bytes, spread_bytes, in_front, runs_of}
 
 pub length-words : (xs : List ℕ) → length (flat_map be32 xs) ≡ 4 * length xs
 length-words [] = refl

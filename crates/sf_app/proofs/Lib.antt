@@ -1,5 +1,4 @@
-pub mod Accepts
-pub mod Beginnings
+pub mod Taken
 pub mod Going
 pub mod Lengths
 pub mod Runs
@@ -11,3 +10,5 @@ pub mod Writable
 pub mod Parts
 pub mod FileOf
 pub mod KeptWhole
+pub mod Putting
+pub mod MovieBoxes

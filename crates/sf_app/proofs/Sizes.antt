@@ -2,7 +2,8 @@
 use Rattle.std.proofs.Common.{◌≡◌, ℕ, ◌==◌, Bool, List, [], ◌∷◌, ◌&&◌, Some, length, cond, refl, ap, subst, eq-eqb}
 use Rattle.std.specs.List.{list_all, slice_get}
 use Rattle.sf_tick.specs.declared.types.Stored.{Stored}
-use Rattle.sf_meaning.specs.Layout.{sizes_of, uniform}
+use Rattle.sf_meaning.specs.Stbl.{uniform}
+use Rattle.sf_app.specs.Tables.{sizes_of}
 
 -- a test of all sizes is a test of all samples
 all_sizes : (n : ℕ) (ss : List Stored) → list_all (λ y. y == n) (sizes_of ss) ≡ list_all (λ (s : Stored). length s.bytes == n) ss

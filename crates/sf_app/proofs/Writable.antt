@@ -10,13 +10,14 @@ use Rattle.sf_tick.specs.Tick.{tick}
 use Rattle.sf_tick.specs.declared.types.Stored.{Stored}
 use Rattle.sf_tick.specs.declared.types.Chunk.{Chunk}
 use Rattle.sf_meaning.specs.Tables.{Spread}
-use Rattle.sf_meaning.specs.Layout.{runs_of, run_bytes, spread_from, spread_bytes, uniform, stored_bytes, sizes_of, decodes_of, deltas_of, samples_of, places_of, first_dts, mvhd_body, tkhd_body, stts_body, stsz_body, stsc_body, stco_body, in_dinf, in_udta}
+use Rattle.sf_meaning.specs.Layout.{stored_bytes, decodes_of, samples_of, first_dts, duration_of, in_dinf, in_udta}
+use Rattle.sf_meaning.specs.Stbl.{runs_of, run_bytes, spread_from, spread_bytes, uniform, deltas_of, stts_body, stsz_body, stsc_body, stco_body}
 use Rattle.sf_meaning.specs.Entry.{aac_entry}
-use Rattle.sf_meaning.specs.Writable.{IsPlain, PacedFrom, Writable}
+use Rattle.sf_meaning.specs.Writable.{IsWritable, PacedFrom, Writable}
 use Rattle.sf_app.specs.Narrow.{AreNarrow, one_chunk}
-use Rattle.sf_app.specs.Tables.{stbl_of, minf_of, mdia_of, trak_of, moov_of}
+use Rattle.sf_app.specs.Tables.{sizes_of, places_of, mvhd_of, tkhd_of, stbl_of, minf_of, mdia_of, trak_of, moov_of}
 use Rattle.sf_app.proofs.Lengths.{length-words, length-run_bytes, length-spread_bytes, length-runs_of}
-use Rattle.sf_app.proofs.OneChunk.{samples_one, moov_one}
+use Rattle.sf_app.proofs.OneChunk.{samples_one, duration_one, moov_one}
 use Rattle.sf_app.proofs.Bounds.{narrow_few, narrow_short, narrow_paced, narrow_duration, length-deltas_of}
 
 -- the length of boxes that stand one after the other
@@ -118,16 +119,16 @@ length-mdia deltas ss =
       length-minf deltas ss,
     )
 
-length-tkhd_body : (length_us : ℕ) → length (tkhd_body length_us) ≡ 84
-length-tkhd_body length_us = simp (length-append, length-be32)
+length-tkhd : (length_us : ℕ) → length (tkhd_of length_us) ≡ 84
+length-tkhd length_us = simp (length-append, length-be32)
 
-length-mvhd_body : (length_us : ℕ) → length (mvhd_body length_us) ≡ 100
-length-mvhd_body length_us = simp (length-append, length-be32)
+length-mvhd : (length_us : ℕ) → length (mvhd_of length_us) ≡ 100
+length-mvhd length_us = simp (length-append, length-be32)
 
 length-trak : (deltas : List ℕ) (ss : List Stored) → length (tiled (trak_of deltas ss)) ≤ 432 + 8 * length deltas + 4 * length ss
 unfolding trak_of
 length-trak deltas ss =
-    omega (arith, length-tiled (trak_of deltas ss) (refl, (refl, tt)), length-tkhd_body (sum deltas * 1000000 / 48000), length-mdia deltas ss)
+    omega (arith, length-tiled (trak_of deltas ss) (refl, (refl, tt)), length-tkhd (sum deltas * 1000000 / 48000), length-mdia deltas ss)
 
 -- The movie box is as long as its tables are, and a little more.
 length-moov : (deltas : List ℕ) (ss : List Stored) → length (tiled (moov_of deltas ss)) ≤ 572 + 8 * length deltas + 4 * length ss
@@ -136,17 +137,17 @@ length-moov deltas ss =
     omega (
       arith,
       length-tiled (moov_of deltas ss) (refl, (refl, (refl, tt))),
-      length-mvhd_body (sum deltas * 1000000 / 48000),
+      length-mvhd (sum deltas * 1000000 / 48000),
       length-trak deltas ss,
       length-tiled (in_udta (first_dts ss)) (refl, tt),
       length-be64 (first_dts ss),
     )
 
-narrow_plain : (last total : ℕ) (ss : List Stored) → total < 4194304 → AreNarrow last total ss → AllByRecursion IsPlain ss
-narrow_plain last total [] lt n = tt
-narrow_plain last total (s ∷ ss) lt n =
+narrow_each : (last total : ℕ) (ss : List Stored) → total < 4194304 → AreNarrow last total ss → AllByRecursion IsWritable ss
+narrow_each last total [] lt n = tt
+narrow_each last total (s ∷ ss) lt n =
     let sum : total + length s.bytes < 4194304 = n.0.sum in
-    (record { compose_is = n.0.compose_is; sync_is = n.0.sync_is; some = n.0.some; short = omega arith }, narrow_plain s.dts_us (total + length s.bytes) ss sum n.1)
+    (record { some = n.0.some; short = omega arith; early = omega (arith, n.0.compose_is); late = omega (arith, n.0.compose_is) }, narrow_each s.dts_us (total + length s.bytes) ss sum n.1)
 
 -- the ticks of samples follow the file's start
 paced_from : (ss : List Stored) → AreNarrow 0 0 ss → PacedFrom (tick (first_dts ss) 48000) (decodes_of ss)
@@ -169,17 +170,18 @@ narrow_writable ss n =
     let lasts : sum (deltas_of (decodes_of ss)) ≤ 96000 = narrow_duration 0 0 ss n in
     let deltas : length (deltas_of (decodes_of ss)) ≡ length ss = length-deltas_of (decodes_of ss) ∙ length-map ss (λ (s : Stored). s.decode) in
     let early : first_dts ss ≤ 1000000 = early_start ss n in
+    let duration : duration_of (one_chunk ss) ≡ sum (deltas_of (decodes_of ss)) = duration_one ss in
     let same : samples_of (one_chunk ss) ≡ ss = samples_one ss in
     record {
       scale_some = omega arith;
       scale_fits = omega arith;
       filled = one_filled ss;
-      plain = rw same (narrow_plain 0 0 ss (omega arith) n);
+      each = rw same (narrow_each 0 0 ss (omega arith) n);
       paced = rw same (paced_from ss n);
       start = rw same (omega arith);
       few = rw same (omega arith);
-      duration = rw same (omega arith);
-      length_us = rw same (omega arith);
+      duration = omega (arith, duration, lasts);
+      length_us = omega (arith, duration, lasts);
       payload = rw same (omega arith);
-      moov = rw (← moov_one ss) (omega (arith, length-moov (deltas_of (decodes_of ss)) ss));
+      moov = rw (← moov_one ss n) (omega (arith, length-moov (deltas_of (decodes_of ss)) ss));
     }

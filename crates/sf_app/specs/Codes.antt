@@ -1,6 +1,6 @@
 use Rattle.std.specs.Prelude.{ℕ}
 use Rattle.sf_app.specs.declared.status.Status.{Status}
-use Rattle.sf_app.specs.declared.status.Status.TheVariants.{Done, Usage, OpenFault, ReadFault, WriteFault, InputRefused, NoMemory}
+use Rattle.sf_app.specs.declared.status.Status.TheVariants.{Done, Usage, OpenFault, ReadFault, WriteFault, InputRefused, MovieRefused, NoMemory}
 
 -- the number with which the program ends
 abbrev pub code_of : Status → ℕ
@@ -10,4 +10,5 @@ code_of (OpenFault input) = 3
 code_of (ReadFault input) = 4
 code_of WriteFault = 5
 code_of (InputRefused track fault) = 6
+code_of (MovieRefused fault) = 7
 code_of NoMemory = 10

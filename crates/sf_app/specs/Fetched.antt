@@ -1,10 +1,10 @@
 -- What inputs were asked for and given back.
 use Rattle.std.specs.Prelude.{◌≡◌, ℕ, ◌≤◌, Bool, true, false, List, [], ◌∷◌, ◌++◌, Option, Some, None}
 
--- the bytes are those that are told, if any are
-abbrev pub Known : Option (List ℕ) → List ℕ → Type 0
-Known None bytes = Unit {0}
-Known (Some told) bytes = bytes ≡ told
+-- a value is the one that is told, if any is
+abbrev pub Known : {A : Type 0} → Option A → A → Type 0
+Known None value = Unit {0}
+Known (Some told) value = value ≡ told
 
 -- A name was asked for; its source was given, and given back.
 pub record GivenBack {I : Type 0} (name : List ℕ) (asked : I → List (List ℕ × Bool)) (returned : I → List ℕ) (before after : I) : Type 0 where

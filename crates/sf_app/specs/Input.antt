@@ -1,76 +1,106 @@
--- Coded sample files of the first form: one AAC track at 48000 Hz with two channels, all of whose samples
--- are sync samples that are shown when they are decoded, within the first second and in less than 4 MiB.
-use Rattle.std.specs.Prelude.{ℕ, zero, suc, ◌+◌, ◌==◌, nat_lt, nat_le, Bool, true, ◌&&◌, List, [], ◌∷◌, ◌++◌, length, take, drop, codes, Option, Some, None, if◌then◌else◌, get_or}
+-- What a recording takes of its input so far: a coded sample file of one AAC track at 48000 Hz with two channels, all of
+-- whose samples are sync samples that are shown when they are decoded, within the first second and in less than 4 MiB.
+use Rattle.std.specs.Prelude.{ℕ, ◌+◌, ◌==◌, nat_lt, nat_le, Bool, true, false, not, ◌&&◌, List, [], ◌∷◌, length, Option, Some, None, if◌then◌else◌}
 use Rattle.std.specs.Str.{bytes_eq}
-use Rattle.sf_box.specs.Boxes.{word32, word64}
 use Rattle.sf_tick.specs.Tick.{tick}
+use Rattle.sf_tick.specs.declared.types.Kind.{Kind}
+use Rattle.sf_tick.specs.declared.types.Kind.TheVariants.{Avc, Aac}
+use Rattle.sf_tick.specs.declared.types.Sample.{Sample}
+use Rattle.sf_tick.specs.declared.types.Setup.{Setup}
 use Rattle.sf_tick.specs.declared.types.Stored.{Stored}
-use Rattle.sf_app.specs.declared.status.CodedFault.TheVariants.{Truncated}
+use Rattle.sf_coded.specs.CodedFile.{CodedFile, coded, fault_place}
+use Rattle.sf_coded.specs.declared.types.CodedFault.{CodedFault}
+use Rattle.sf_coded.specs.declared.types.CodedFault.TheVariants.{ReadFault, NoMemory}
+use Rattle.sf_coded.specs.declared.types.CodedSample.{CodedSample}
+use Rattle.sf_app.specs.declared.status.InputFault.{InputFault}
 use Rattle.sf_app.specs.declared.status.InputFault.TheVariants.{Coded, NotYet}
 use Rattle.sf_app.specs.declared.status.TrackFault.{TrackFault}
-use Rattle.sf_app.specs.declared.input.Parsed.{Parsed}
-use Rattle.sf_app.specs.declared.head.RecordHead.{RecordHead}
 
--- "SFCS", version 1, kind 2 (AAC), no timescale, width or height, two channels, and a configuration of two bytes: object type 2 at 48000 Hz with two channels (ISO/IEC 14496-3, 1.6.2.1)
-abbrev pub header : List ℕ
-header =
-    codes "SFCS" ++ (0 ∷ 1 ∷ 0 ∷ 2 ∷ 0 ∷ 0 ∷ 0 ∷ 0 ∷ 0 ∷ 0 ∷ 0 ∷ 0 ∷ 0 ∷ 2 ∷ 0 ∷ 0 ∷ 0 ∷ 2 ∷ 0x11 ∷ 0x90 ∷ [])
-
--- the file ends too early, at this length
-abbrev pub truncated : ℕ → TrackFault
-truncated at = record { why = Coded (Truncated at); place = at }
+-- the bytes are no coded sample file, for this fault
+abbrev pub coded_fault : CodedFault → TrackFault
+coded_fault fault = record { why = Coded fault; place = fault_place fault }
 
 -- the bytes leave the form at this place
 abbrev pub not_yet : ℕ → TrackFault
 not_yet place = record { why = NotYet; place = place }
 
--- what is wrong with the header, if anything
-abbrev pub header_fault : List ℕ → Option TrackFault
-header_fault file =
-    if nat_lt (length file) 24 then Some (truncated (length file))
-    else if bytes_eq (take 24 file) header then None
-    else Some (not_yet 0)
+-- how a coded sample file ends: whole (none), or by a fault
+abbrev pub end_fault : Option CodedFault → Option TrackFault
+end_fault None = None
+end_fault (Some fault) = Some (coded_fault fault)
 
--- the fields behind tag 1: flags, two times in microseconds, and the payload's length
-unfoldable pub head_of : List ℕ → RecordHead
-head_of behind =
-    record { flags = get_or behind 0 0; dts_us = word64 (drop 1 behind); pts_us = word64 (drop 9 behind); size = word32 (drop 17 behind) }
+-- a fault of an input's bytes, and not of its source or of memory
+abbrev pub IsOfBytes : InputFault → Type 0
+IsOfBytes NotYet = Unit {0}
+IsOfBytes (Coded ReadFault) = ⊥
+IsOfBytes (Coded NoMemory) = ⊥
+IsOfBytes (Coded fault) = Unit {0}
 
--- Whether a record is of the form, behind one with this time and payloads of so many bytes.
-unfoldable pub in_form : ℕ → ℕ → RecordHead → Bool
-in_form last total head =
-    (head.flags == 1) && (head.dts_us == head.pts_us) && nat_le head.pts_us 1000000 && nat_le last head.dts_us && nat_le 1 head.size && nat_lt (total + head.size) 4194304
+-- whether samples are of video
+abbrev pub is_video : Kind → Bool
+is_video Avc = true
+is_video Aac = false
 
--- the sample of a record
-abbrev pub sample_of : RecordHead → List ℕ → Stored
-sample_of head payload =
-    record { dts_us = head.dts_us; decode = tick head.dts_us 48000; compose = tick head.pts_us 48000; sync = true; bytes = payload }
+-- what of a setup isn't taken, if anything: video, a timescale of its own, or other sound than two channels with the configuration 11 90: object type 2 at 48000 Hz with two channels (ISO/IEC 14496-3, 1.6.2.1)
+unfoldable pub setup_fault : Setup → Option TrackFault
+setup_fault setup =
+    if is_video setup.kind then Some (not_yet 6)
+    else if not (setup.scale == 0) then Some (not_yet 8)
+    else if not (setup.channels == 2 && bytes_eq setup.config (0x11 ∷ 0x90 ∷ [])) then Some (not_yet 22)
+    else None
 
-abbrev pub refused : TrackFault → Parsed
-refused fault = record { samples = []; fault = Some fault }
+-- what is wrong with the header of a coded sample file with this setup and end, if anything
+abbrev pub fault_of : Option Setup → Option CodedFault → Option TrackFault
+fault_of None end = end_fault end
+fault_of (Some setup) end = setup_fault setup
 
+-- what is wrong with the header of an input, if anything
+unfoldable pub header_fault : List ℕ → Option TrackFault
+header_fault file = fault_of (coded file).setup (coded file).end
+
+-- Whether a sample is of the form, behind one that is decoded then and payloads of so many bytes.
+unfoldable pub in_form : ℕ → ℕ → Sample → Bool
+in_form last total s =
+    s.sync && (s.dts_us == s.pts_us) && nat_le s.pts_us 1000000 && nat_le last s.dts_us && nat_lt (total + length s.bytes) 4194304
+
+-- a sample as it is stored
+abbrev pub stored_as : Sample → Stored
+stored_as s = record { dts_us = s.dts_us; decode = tick s.dts_us 48000; compose = tick s.pts_us 48000; sync = s.sync; bytes = s.bytes }
+
+-- What an input says: what is wrong with its header, if anything; its samples in front of its first fault; and that fault, none for a whole input.
+pub record Parsed : Type 0 where
+  pub header : Option TrackFault
+  pub samples : List Stored
+  pub fault : Option TrackFault
+
+-- an input whose header is refused
+abbrev pub closed : TrackFault → Parsed
+closed fault = record { header = Some fault; samples = []; fault = Some fault }
+
+-- no further sample
+abbrev pub ended : Option TrackFault → Parsed
+ended fault = record { header = None; samples = []; fault = fault }
+
+-- with one sample in front
 abbrev pub with_sample : Stored → Parsed → Parsed
-with_sample sample parsed = record { samples = sample ∷ parsed.samples; fault = parsed.fault }
+with_sample s parsed = record { header = parsed.header; samples = s ∷ parsed.samples; fault = parsed.fault }
 
--- The records from a place on, which are the rest of the file, up to its end or the first fault; at most so many, behind one with this time and payloads of so many bytes. A record is a tag, and behind tag 1 the fields in 21 bytes and the payload; tag 0 ends the file.
-unfoldable pub records : ℕ → ℕ → ℕ → ℕ → List ℕ → Parsed
-records zero at last total rest = refused (truncated at)
-records (suc n) at last total [] = refused (truncated at)
-records (suc n) at last total (zero ∷ []) = record { samples = []; fault = None }
-records (suc n) at last total (zero ∷ b ∷ rest) = refused (not_yet (at + 1))
-records (suc n) at last total (suc zero ∷ rest) =
-    if nat_lt (length rest) 21 then refused (truncated (at + 1 + length rest))
-    else if in_form last total (head_of rest) then
-    (if nat_lt (length (drop 21 rest)) (head_of rest).size then refused (truncated (at + 1 + length rest))
-    else with_sample (sample_of (head_of rest) (take (head_of rest).size (drop 21 rest)))
-    (records n (at + 22 + (head_of rest).size) (head_of rest).dts_us (total + (head_of rest).size) (drop (head_of rest).size (drop 21 rest))))
-    else refused (not_yet at)
-records (suc n) at last total (suc (suc tag) ∷ rest) = refused (not_yet at)
+-- Samples and the end of a coded sample file, taken up to the first fault, behind a sample that is decoded then and payloads of so many bytes.
+unfoldable pub taken : ℕ → ℕ → List CodedSample → Option CodedFault → Parsed
+taken last total [] end = ended (end_fault end)
+taken last total (s ∷ ss) end =
+    if in_form last total s.sample then with_sample (stored_as s.sample) (taken s.sample.dts_us (total + length s.sample.bytes) ss end)
+    else ended (Some (not_yet s.at))
 
-abbrev pub behind_header : List ℕ → Option TrackFault → Parsed
-behind_header file None = records (length file) 24 0 0 (drop 24 file)
-behind_header file (Some fault) = refused fault
+abbrev pub behind_header : CodedFile → Option TrackFault → Parsed
+behind_header file None = taken 0 0 file.samples file.end
+behind_header file (Some fault) = closed fault
 
--- The samples of a file in front of its first fault, and that fault, none for a whole file.
+-- what an input says
 unfoldable pub parsed : List ℕ → Parsed
-parsed file = behind_header file (header_fault file)
+parsed file = behind_header (coded file) (header_fault file)
+
+-- the same, where its bytes are told
+abbrev pub said : Option (List ℕ) → Option Parsed
+said None = None
+said (Some file) = Some (parsed file)

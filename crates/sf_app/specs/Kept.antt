@@ -4,7 +4,7 @@ use Rattle.sf_tick.specs.declared.types.Stored.{Stored}
 use Rattle.sf_world.specs.Contents.{grown, shelved}
 use Rattle.sf_meaning.specs.Entry.{aac_entry}
 use Rattle.sf_meaning.specs.Layout.{layout}
-use Rattle.sf_app.specs.Input.{parsed}
+use Rattle.sf_app.specs.Input.{Parsed}
 use Rattle.sf_app.specs.Narrow.{one_chunk}
 
 -- the file of an AAC track at 48000 Hz with these samples
@@ -12,8 +12,8 @@ abbrev pub file_of : List Stored → List ℕ
 file_of samples = layout 48000 aac_entry (one_chunk samples)
 
 -- the file of the samples of an input before its first fault
-abbrev pub movie_of : List ℕ → List ℕ
-movie_of input = file_of (parsed input).samples
+abbrev pub movie_of : Parsed → List ℕ
+movie_of input = file_of input.samples
 
 -- Some first part of the bytes was put at the end.
 pub record GainsPart (whole : List ℕ) (before after : Option (List ℕ)) : Type 0 where

@@ -1,20 +1,20 @@
 -- What the text says. Each line ends with a line feed; numbers are decimal.
-use Rattle.std.specs.Prelude.{◌≡◌, ℕ, ◌≤◌, ◌⊎◌, List, [], ◌++◌, length, take, codes, Option}
+use Rattle.std.specs.Prelude.{◌≡◌, ℕ, ◌⊎◌, List, [], ◌++◌, length, codes, Option}
 use Rattle.std.specs.Fmt.{decimal}
 use Rattle.sf_world.specs.Contents.{grown}
 use Rattle.sf_world.specs.Counts.{Rose}
-use Rattle.sf_app.specs.Input.{parsed}
+use Rattle.sf_app.specs.Input.{Parsed}
 use Rattle.sf_app.specs.Kept.{GainsPart, movie_of}
 use Rattle.sf_app.specs.declared.status.Status.{Status}
-use Rattle.sf_app.specs.declared.status.Status.TheVariants.{Done, Usage, OpenFault, ReadFault, WriteFault, InputRefused, NoMemory}
+use Rattle.sf_app.specs.declared.status.Status.TheVariants.{Done, Usage, OpenFault, ReadFault, WriteFault, InputRefused, MovieRefused, NoMemory}
 
 -- the lines of a recording in one file of so many bytes with so many samples
 abbrev pub done_lines : ℕ → ℕ → List ℕ
 done_lines size samples = codes "file 1 " ++ (decimal size ++ (codes "\ntrack 0 " ++ (decimal samples ++ codes "\ndone\n")))
 
 -- the lines of the recording of a whole input
-abbrev pub lines_of : List ℕ → List ℕ
-lines_of input = done_lines (length (movie_of input)) (length (parsed input).samples)
+abbrev pub lines_of : Parsed → List ℕ
+lines_of input = done_lines (length (movie_of input)) (length input.samples)
 
 -- the line of an answer other than Done
 abbrev pub line_of : Status → List ℕ
@@ -24,6 +24,7 @@ line_of (OpenFault input) = codes "cannot open input " ++ (decimal input ++ code
 line_of (ReadFault input) = codes "cannot read input " ++ (decimal input ++ codes "\n")
 line_of WriteFault = codes "cannot write\n"
 line_of (InputRefused track fault) = codes "input refused: track " ++ (decimal track ++ (codes " at " ++ (decimal fault.place ++ codes "\n")))
+line_of (MovieRefused fault) = codes "movie refused\n"
 line_of NoMemory = codes "no memory\n"
 
 -- The text failed, and gained a first part of some lines at most.

@@ -2,7 +2,7 @@
 use Rattle.std.specs.Prelude.{ℕ, ◌==◌, Bool, false, not, List, [], ◌∷◌, map, codes, String, string_bytes, Result, Ok, Err, if◌then◌else◌}
 use Rattle.std.specs.Str.{bytes_eq}
 use Rattle.sf_app.specs.declared.status.UsageFault.{UsageFault}
-use Rattle.sf_app.specs.declared.status.UsageFault.TheVariants.{Command, Words}
+use Rattle.sf_app.specs.declared.status.UsageFault.TheVariants as usage
 
 -- a word that can name an input: neither empty nor one that begins with '-'
 abbrev pub is_plain : List ℕ → Bool
@@ -11,15 +11,28 @@ is_plain (b ∷ bytes) = not (b == 45)
 
 -- the name, where the words are just one that can name an input
 abbrev pub one_name : List (List ℕ) → Result (List ℕ) UsageFault
-one_name [] = Err Words
-one_name (name ∷ []) = if is_plain name then Ok name else Err Words
-one_name (name ∷ other ∷ words) = Err Words
+one_name [] = Err usage.Words
+one_name (name ∷ []) = if is_plain name then Ok name else Err usage.Words
+one_name (name ∷ other ∷ words) = Err usage.Words
 
--- the name of the input that is to be recorded, or what is wrong with the words
-abbrev pub command : List (List ℕ) → Result (List ℕ) UsageFault
-command [] = Err Command
-command (first ∷ words) = if bytes_eq first (codes "record") then one_name words else Err Command
+-- What is to be done: an input of a name is recorded, or the movie of a name is listed.
+pub data Command : Type 0 where
+  records : List ℕ → Command
+  lists : List ℕ → Command
+
+-- a command with one name, where that is given
+abbrev pub with_name : (List ℕ → Command) → Result (List ℕ) UsageFault → Result Command UsageFault
+with_name make (Ok name) = Ok (make name)
+with_name make (Err fault) = Err fault
+
+-- what the words ask for, or what is wrong with them
+abbrev pub command : List (List ℕ) → Result Command UsageFault
+command [] = Err usage.Command
+command (first ∷ words) =
+    if bytes_eq first (codes "record") then with_name records (one_name words)
+    else if bytes_eq first (codes "list") then with_name lists (one_name words)
+    else Err usage.Command
 
 -- the same, from the words as texts
-abbrev pub named_input : {Z : Type 0} → List (String Z) → Result (List ℕ) UsageFault
-named_input words = command (map string_bytes words)
+abbrev pub asked : {Z : Type 0} → List (String Z) → Result Command UsageFault
+asked words = command (map string_bytes words)

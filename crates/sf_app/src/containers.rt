@@ -4,7 +4,9 @@
 ghost use Rattle.std.specs.Prelude.{◌≡◌, ◌+◌, ◌*◌, ◌/◌, ◌^◌, ◌<◌, ◌≤◌, [], ◌∷◌, ◌++◌, codes, length, map, sum, OnOk};
 ghost use Rattle.sf_box.specs.Boxes.{box_of};
 ghost use Rattle.sf_box.specs.Parts.{tiled};
-ghost use Rattle.sf_meaning.specs.Layout.{first_dts, places_of, stsc_body, stco_body};
+ghost use Rattle.sf_meaning.specs.Layout.{first_dts};
+ghost use Rattle.sf_meaning.specs.Stbl.{stsc_body, stco_body};
+ghost use Rattle.sf_app.specs.Tables.{places_of};
 ghost use Rattle.sf_app.specs.Narrow.{one_chunk};
 ghost use Rattle.sf_app.specs.Tables.{TablesFit, stbl_of, minf_of, mdia_of, trak_of, moov_of};
 

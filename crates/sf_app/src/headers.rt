@@ -3,7 +3,8 @@
 ghost use Rattle.std.specs.Prelude.{◌≡◌, ◌+◌, [], ◌∷◌, ◌++◌, codes, length, OnOk};
 ghost use Rattle.sf_box.specs.Boxes.{box_of};
 ghost use Rattle.sf_box.specs.Parts.{tiled};
-ghost use Rattle.sf_meaning.specs.Layout.{matrix, mvhd_body, tkhd_body, mdhd_body, in_dinf, in_udta};
+ghost use Rattle.sf_meaning.specs.Layout.{matrix, in_dinf, in_udta};
+ghost use Rattle.sf_app.specs.Tables.{mvhd_of, tkhd_of, mdhd_of};
 
 use sf_box::{FourCc, begin_box, end_box, put_box, put_bytes, put_u32};
 use sf_list::Bytes;
@@ -61,7 +62,7 @@ fn put_with_matrix(out: &mut Bytes, before: &[u8; 16]) -> Result<(), AllocError>
 /// Puts the movie header box (8.2.2).
 #[tactic(auto, using(crate::proofs::Lengths::length_facts))]
 pub(crate) fn put_mvhd(out: &mut Bytes, length_us: u32) -> Result<(), AllocError>
-    ensures put { OnOk result (out.new ≡ out.old ++ box_of (codes "mvhd") (mvhd_body length_us)) }
+    ensures put { OnOk result (out.new ≡ out.old ++ box_of (codes "mvhd") (mvhd_of length_us)) }
     ensures length { OnOk result (length out.new ≡ length out.old + 108) }
 {
     let mark = begin_box(out, FourCc(*b"mvhd"))?;
@@ -77,7 +78,7 @@ pub(crate) fn put_mvhd(out: &mut Bytes, length_us: u32) -> Result<(), AllocError
 /// Puts the track header box (8.3.2).
 #[tactic(auto, using(crate::proofs::Lengths::length_facts))]
 pub(crate) fn put_tkhd(out: &mut Bytes, length_us: u32) -> Result<(), AllocError>
-    ensures put { OnOk result (out.new ≡ out.old ++ box_of (codes "tkhd") (tkhd_body length_us)) }
+    ensures put { OnOk result (out.new ≡ out.old ++ box_of (codes "tkhd") (tkhd_of length_us)) }
     ensures length { OnOk result (length out.new ≡ length out.old + 92) }
 {
     let mark = begin_box(out, FourCc(*b"tkhd"))?;
@@ -92,7 +93,7 @@ pub(crate) fn put_tkhd(out: &mut Bytes, length_us: u32) -> Result<(), AllocError
 /// Puts the media header box (8.4.2).
 #[tactic(auto, using(crate::proofs::Lengths::length_facts))]
 pub(crate) fn put_mdhd(out: &mut Bytes, duration: u32) -> Result<(), AllocError>
-    ensures put { OnOk result (out.new ≡ out.old ++ box_of (codes "mdhd") (mdhd_body 48000 duration)) }
+    ensures put { OnOk result (out.new ≡ out.old ++ box_of (codes "mdhd") (mdhd_of 48000 duration)) }
     ensures length { OnOk result (length out.new ≡ length out.old + 32) }
 {
     let mark = begin_box(out, FourCc(*b"mdhd"))?;

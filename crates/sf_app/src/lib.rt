@@ -2,22 +2,28 @@
 #![tactic(auto)]
 
 mod containers;
-mod head;
+mod form;
 mod headers;
-mod input;
+mod lines;
+mod listed;
+mod listing;
 mod loading;
 mod movie_file;
+mod reading;
 mod recording;
 mod running;
 mod status;
 mod tables;
 mod telling;
-mod turn;
+mod walking;
 mod words;
 mod writing;
 
+pub use listing::{ListFault, list_movie};
 pub use running::run;
-pub use status::{CodedFault, InputFault, Status, TrackFault, UsageFault};
+pub use sf_coded::CodedFault;
+pub use sf_meaning::MovieFault;
+pub use status::{InputFault, Status, TrackFault, UsageFault};
 
 #[cfg(test)]
 mod tests;

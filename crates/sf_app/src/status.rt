@@ -1,6 +1,9 @@
 ghost use Rattle.std.specs.Prelude.{◌≡◌};
 ghost use Rattle.sf_app.specs.Codes.{code_of};
 
+use sf_coded::CodedFault;
+use sf_meaning::MovieFault;
+
 /// What is wrong with the words.
 #[derive(Clone, Copy, Debug, PartialEq, Eq)]
 pub enum UsageFault {
@@ -10,16 +13,10 @@ pub enum UsageFault {
     Words,
 }
 
-/// What is wrong with the bytes of a coded sample file. Places count bytes from its start.
-#[derive(Clone, Copy, Debug, PartialEq, Eq)]
-pub enum CodedFault {
-    /// The file ends, at its length `at`, within a part or before its end is told.
-    Truncated { at: u64 },
-}
-
 /// Why an input is refused.
 #[derive(Clone, Copy, Debug, PartialEq, Eq)]
 pub enum InputFault {
+    /// It is no coded sample file.
     Coded(CodedFault),
     /// It is whole so far and of a form that isn't taken yet.
     NotYet,
@@ -44,6 +41,7 @@ pub enum Status {
     /// A file or the text couldn't be written.
     WriteFault,
     InputRefused { track: u32, fault: TrackFault },
+    MovieRefused(MovieFault),
     NoMemory,
 }
 
@@ -59,6 +57,7 @@ impl Status {
             Status::ReadFault { .. } => 4,
             Status::WriteFault => 5,
             Status::InputRefused { .. } => 6,
+            Status::MovieRefused(_) => 7,
             Status::NoMemory => 10,
         }
     }

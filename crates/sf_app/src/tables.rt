@@ -3,7 +3,9 @@
 ghost use Rattle.std.specs.Prelude.{◌≡◌, ◌+◌, ◌-◌, ◌*◌, ◌==◌, ◌^◌, ◌<◌, ◌≤◌, ◌++◌, codes, length, map, vec_len, IfOk, OnOk};
 ghost use Rattle.std.specs.List.{flat_map, list_all};
 ghost use Rattle.sf_box.specs.Boxes.{be32, box_of};
-ghost use Rattle.sf_meaning.specs.Layout.{decodes_of, sizes_of, stored_bytes, deltas_of, runs_of, uniform, run_bytes, spread_from, spread_bytes, stts_body, stsz_body, stsc_body, stco_body};
+ghost use Rattle.sf_meaning.specs.Layout.{decodes_of, stored_bytes};
+ghost use Rattle.sf_meaning.specs.Stbl.{deltas_of, runs_of, uniform, run_bytes, spread_from, spread_bytes, stts_body, stsz_body, stsc_body, stco_body};
+ghost use Rattle.sf_app.specs.Tables.{sizes_of};
 ghost use Rattle.sf_app.specs.Tables.{ArePaced, spread_of};
 
 use sf_box::{FourCc, begin_box, end_box, put_bytes, put_u32};
@@ -71,7 +73,7 @@ fn put_runs(out: &mut Bytes, runs: &[(u32, u32)]) -> Result<(), AllocError>
 }
 
 /// Puts the decoding time to sample box, from the samples' deltas in ticks (8.6.1.2).
-#[tactic(auto, using(crate::proofs::Lengths::length_facts), unfolding(sf_meaning::specs::Layout::stts_body))]
+#[tactic(auto, using(crate::proofs::Lengths::length_facts), unfolding(sf_meaning::specs::Stbl::stts_body))]
 pub(crate) fn put_stts(out: &mut Bytes, alloc: Global, deltas: &[u32]) -> Result<(), AllocError>
     requires { length deltas.now < 2 ^ 28 }
     ensures put { OnOk result (out.new ≡ out.old ++ box_of (codes "stts") (stts_body deltas.now)) }
@@ -120,7 +122,7 @@ fn put_sizes(out: &mut Bytes, samples: &[Stored]) -> Result<(), AllocError>
 }
 
 /// Puts the sample size box (8.7.3.2): one size for all samples, or one for each.
-#[tactic(auto, using(crate::proofs::Lengths::length_facts), unfolding(sf_meaning::specs::Layout::stsz_body))]
+#[tactic(auto, using(crate::proofs::Lengths::length_facts), unfolding(sf_meaning::specs::Stbl::stsz_body))]
 pub(crate) fn put_stsz(out: &mut Bytes, samples: &[Stored]) -> Result<(), AllocError>
     requires count { length samples.now < 2 ^ 28 }
     requires bytes { length (stored_bytes samples.now) < 2 ^ 32 }
@@ -172,7 +174,7 @@ fn put_entries(out: &mut Bytes, entries: &[(u32, u32)]) -> Result<(), AllocError
 }
 
 /// Puts the sample-to-chunk box, from the number of samples in each chunk (8.7.4).
-#[tactic(auto, using(crate::proofs::Lengths::length_facts), unfolding(sf_meaning::specs::Layout::stsc_body))]
+#[tactic(auto, using(crate::proofs::Lengths::length_facts), unfolding(sf_meaning::specs::Stbl::stsc_body))]
 pub(crate) fn put_stsc(out: &mut Bytes, alloc: Global, counts: &[u32]) -> Result<(), AllocError>
     requires { length counts.now < 2 ^ 28 }
     ensures put { OnOk result (out.new ≡ out.old ++ box_of (codes "stsc") (stsc_body counts.now)) }
@@ -197,7 +199,7 @@ fn put_words(out: &mut Bytes, words: &[u32]) -> Result<(), AllocError>
 }
 
 /// Puts the chunk offset box: the place of each chunk, in bytes from the start of the file (8.7.5).
-#[tactic(auto, using(crate::proofs::Lengths::length_facts), unfolding(sf_meaning::specs::Layout::stco_body))]
+#[tactic(auto, using(crate::proofs::Lengths::length_facts), unfolding(sf_meaning::specs::Stbl::stco_body))]
 pub(crate) fn put_stco(out: &mut Bytes, places: &[u32]) -> Result<(), AllocError>
     requires { length places.now < 2 ^ 28 }
     ensures put { OnOk result (out.new ≡ out.old ++ box_of (codes "stco") (stco_body places.now)) }

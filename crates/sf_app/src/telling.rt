@@ -58,6 +58,7 @@ pub(crate) fn tell_refusal<T: Sink>(alloc: Global, text: &mut T, status: &Status
                 tell(text, line.as_str());
             }
         }
+        Status::MovieRefused(_) => tell(text, "movie refused\n"),
         Status::NoMemory => tell(text, "no memory\n"),
     }
 }

@@ -7,6 +7,7 @@ use std::alloc::{AllocError, Global};
 
 mod failures;
 mod inputs;
+mod listing;
 mod refusals;
 mod words;
 
@@ -65,4 +66,20 @@ fn only_size(shelf: &MemShelf) -> Option<usize> {
         None => Some(size),
         Some(_) => None,
     }
+}
+
+/// A coded sample file of samples at these times (in microseconds) and with so many bytes.
+fn input_of(alloc: Global, samples: &[(u64, u32)]) -> Result<Vec<u8>, AllocError> {
+    let mut input = Vec::new(alloc);
+    input.extend_from_slice(&INPUT[..24])?;
+    for (us, size) in samples {
+        input.extend_from_slice(&[1, 1])?;
+        input.extend_from_slice(&us.to_be_bytes())?;
+        input.extend_from_slice(&us.to_be_bytes())?;
+        input.extend_from_slice(&size.to_be_bytes())?;
+        let payload = vec![in alloc; 7u8; *size as usize]?;
+        input.extend_from_slice(&payload)?;
+    }
+    input.push(0)?;
+    Ok(input)
 }

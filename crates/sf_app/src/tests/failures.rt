@@ -13,22 +13,78 @@ fn a_name_that_is_not_there_makes_no_file(rt: HostRuntime) -> Result<(), Fail> {
     Ok(())
 }
 
+/// Three samples, of which the second is longer than the block through which an input is read. The
+/// first read takes the header and what follows it, the second one the long payload, and the third
+/// one the rest.
+const LONG: [(u64, u32); 3] = [(0, 1), (21_333, 70_000), (42_667, 1)];
+
+/// The file that is made of a whole input.
+fn file_of(alloc: Global, samples: &[(u64, u32)]) -> Result<Ended, AllocError> {
+    run_words(alloc, &["record", "a"], &input_of(alloc, samples)?)
+}
+
+// A file of one sample has 40 bytes in front of its samples and 588 behind them; with unequal sizes
+// another 4 for each sample.
 #[test]
-fn the_only_read_of_the_input_fails(rt: HostRuntime) -> Result<(), Fail> {
+fn each_read_of_the_input_fails(rt: HostRuntime) -> Result<(), Fail> {
     let alloc = rt.alloc();
     let words = words_of(alloc, &["record", "a"])?;
-    let rows: [(u64, Status, &[u8]); 2] = [
-        (0, Status::ReadFault { input: 0 }, b"cannot read input 0\n"),
-        (1, Status::Done, b"file 1 640\ntrack 0 3\ndone\n"),
+    let input = input_of(alloc, &LONG)?;
+    let read = Status::ReadFault { input: 0 };
+    let said = b"cannot read input 0\n".as_slice();
+    // The failing read, the answer, the samples that are kept, the size of their file, and the text.
+    let rows: [(u64, Status, &[(u64, u32)], Option<usize>, &[u8]); 4] = [
+        (0, read, &LONG[..0], None, said),
+        (1, read, &LONG[..1], Some(629), said),
+        (2, read, &LONG[..2], Some(70_637), said),
+        (
+            3,
+            Status::Done,
+            &LONG,
+            Some(70_642),
+            b"file 1 70642\ntrack 0 3\ndone\n",
+        ),
     ];
-    for (failing, status, lines) in rows {
-        let mut inputs = inputs_of(alloc, &INPUT, vec![in alloc; failing]?)?;
+    for (failing, status, kept, size, lines) in rows {
+        let mut inputs = inputs_of(alloc, &input, vec![in alloc; failing]?)?;
         let mut shelf = MemShelf::new(alloc, Vec::new(alloc));
         let mut text = MemText::new(alloc);
         let ended = run(alloc, &words, &mut inputs, &mut shelf, &mut text);
-        assert_eq!(rt; ended, status);
-        assert_eq!(rt; shelf.file(0).is_some(), failing == 1);
+        assert_eq!(rt; ended, status, "read {failing}");
+        assert_eq!(rt; only_size(&shelf), size, "read {failing}");
+        assert_eq!(rt; shelf.file(0).is_some(), size.is_some());
+        if size.is_some() {
+            // It is the file of a whole input of these samples.
+            let whole = file_of(alloc, kept)?;
+            assert_eq!(rt; whole.status, Status::Done);
+            assert!(rt; shelf.file(0) == whole.shelf.file(0), "read {failing}");
+        }
         assert_eq!(rt; text.bytes(), lines);
+    }
+    Ok(())
+}
+
+// The shelf fails too: to make the file, or at its last write.
+#[test]
+fn a_failing_write_is_told_before_a_failed_read_behind_the_header(
+    rt: HostRuntime,
+) -> Result<(), Fail> {
+    let alloc = rt.alloc();
+    let words = words_of(alloc, &["record", "a"])?;
+    let input = input_of(alloc, &LONG)?;
+    let rows = [
+        (0, 0, Status::ReadFault { input: 0 }, None),
+        (1, 0, Status::WriteFault, None),
+        (1, 1, Status::WriteFault, Some(41)),
+    ];
+    for (failing, object, status, size) in rows {
+        let mut inputs = inputs_of(alloc, &input, vec![in alloc; failing]?)?;
+        let mut shelf = MemShelf::new(alloc, Vec::new(alloc));
+        shelf.fail_on(object, if object == 0 { 0 } else { 2 })?;
+        let mut text = MemText::new(alloc);
+        let ended = run(alloc, &words, &mut inputs, &mut shelf, &mut text);
+        assert_eq!(rt; ended, status);
+        assert_eq!(rt; only_size(&shelf), size);
     }
     Ok(())
 }

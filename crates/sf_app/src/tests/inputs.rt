@@ -4,7 +4,7 @@ use super::*;
 use std::test::Fail;
 
 /// The file of the whole input, box by box.
-const FILE: [u8; 640] = *b"\
+pub(super) const FILE: [u8; 640] = *b"\
     \0\0\0\x18ftypmp42\0\0\0\0isommp42\
     \0\0\0\x01mdat\0\0\0\0\0\0\0\x1c!\x10\x04`!\x10\x04`!\x10\x04`\
     \0\0\x02Lmoov\

@@ -14,79 +14,138 @@ fn changed(changes: &[(usize, u8)]) -> [u8; 103] {
     input
 }
 
-#[test]
-fn a_header_of_another_form_makes_no_file(rt: HostRuntime) -> Result<(), Fail> {
-    let fault = TrackFault {
-        why: InputFault::NotYet,
-        place: 0,
-    };
-    for at in 0..24usize {
-        let input = changed(&[(at, INPUT[at] ^ 1)]);
-        let ended = run_words(rt.alloc(), &["record", "a"], &input)?;
-        assert_eq!(rt;
-            ended.status,
-            Status::InputRefused { track: 0, fault },
-            "at {at}"
-        );
-        assert!(rt; ended.shelf.file(0).is_none(), "at {at}");
-        assert_eq!(rt;
-            ended.text.bytes(),
-            b"input refused: track 0 at 0\n".as_slice()
-        );
-    }
-    Ok(())
+// The line of a refusal at a place.
+fn line(alloc: Global, place: u64) -> Result<String, AllocError> {
+    format!(in alloc; "input refused: track 0 at {place}\n")
 }
 
 #[test]
-fn a_record_of_another_form_ends_the_samples(rt: HostRuntime) -> Result<(), Fail> {
-    // What is changed, the place of the fault, and the size of the file of the samples before it.
-    let rows: [(&[(usize, u8)], u64, usize); 10] = [
-        (&[(24, 2)], 24, 604),
-        (&[(25, 0)], 24, 604),
-        (&[(25, 3)], 24, 604),
-        // Another time to be shown at.
-        (&[(41, 1)], 24, 604),
-        // No payload, and a payload that makes 4 MiB together.
-        (&[(45, 0)], 24, 604),
-        (&[(43, 0x40)], 24, 604),
-        // Later than a second.
-        (&[(57, 0x10), (65, 0x10)], 50, 632),
-        // Earlier than the one before.
-        (&[(84, 0), (92, 0)], 76, 636),
-        (&[(76, 9)], 76, 636),
-        (&[(102, 255)], 102, 640),
+fn each_refusal_of_a_header_names_its_field_and_makes_no_file(rt: HostRuntime) -> Result<(), Fail> {
+    let alloc = rt.alloc();
+    let long = CodedFault::ConfigTooLong { len: 65_538 };
+    let truncated = CodedFault::Truncated { at: 103 };
+    let rows: [(&[(usize, u8)], InputFault, u64); 20] = [
+        (&[(0, b'T')], InputFault::Coded(CodedFault::Magic), 0),
+        (&[(3, b'T')], InputFault::Coded(CodedFault::Magic), 0),
+        (&[(4, 1)], InputFault::Coded(CodedFault::Version(257)), 4),
+        (&[(5, 0)], InputFault::Coded(CodedFault::Version(0)), 4),
+        (&[(6, 1)], InputFault::Coded(CodedFault::KindCode(258)), 6),
+        (&[(7, 0)], InputFault::Coded(CodedFault::KindCode(0)), 6),
+        (&[(19, 1)], InputFault::Coded(long), 18),
+        // A configuration of 258 bytes.
+        (&[(20, 1)], InputFault::Coded(truncated), 103),
+        // Video, a timescale, one channel, and other configurations.
+        (&[(7, 1)], InputFault::NotYet, 6),
+        (&[(8, 1)], InputFault::NotYet, 8),
+        (&[(11, 1)], InputFault::NotYet, 8),
+        (&[(16, 1)], InputFault::NotYet, 22),
+        (&[(17, 1)], InputFault::NotYet, 22),
+        (&[(21, 1)], InputFault::NotYet, 22),
+        (&[(21, 3)], InputFault::NotYet, 22),
+        (&[(22, 0x12)], InputFault::NotYet, 22),
+        (&[(23, 0x10)], InputFault::NotYet, 22),
+        // The form is looked at behind the whole header, by place.
+        (&[(7, 1), (20, 1)], InputFault::Coded(truncated), 103),
+        (&[(7, 1), (11, 1), (17, 1)], InputFault::NotYet, 6),
+        (&[(11, 1), (17, 1)], InputFault::NotYet, 8),
     ];
-    for (changes, place, size) in rows {
-        let input = changed(changes);
-        let ended = run_words(rt.alloc(), &["record", "a"], &input)?;
-        let fault = TrackFault {
-            why: InputFault::NotYet,
-            place,
-        };
-        assert_eq!(rt;
-            ended.status,
-            Status::InputRefused { track: 0, fault },
-            "at {place}"
-        );
-        assert_eq!(rt; only_size(&ended.shelf), Some(size), "at {place}");
+    for (changes, why, place) in rows {
+        let ended = run_words(alloc, &["record", "a"], &changed(changes))?;
+        let fault = TrackFault { why, place };
+        assert_eq!(rt; ended.status, Status::InputRefused { track: 0, fault });
+        assert!(rt; ended.shelf.file(0).is_none(), "at {place}");
+        assert_eq!(rt; ended.text.bytes(), line(alloc, place)?.as_bytes());
     }
     Ok(())
 }
 
-/// A coded sample file of samples at these times (in microseconds) and with so many bytes.
-fn input_of(alloc: Global, samples: &[(u64, u32)]) -> Result<Vec<u8>, AllocError> {
-    let mut input = Vec::new(alloc);
-    input.extend_from_slice(&INPUT[..24])?;
-    for (us, size) in samples {
-        input.extend_from_slice(&[1, 1])?;
-        input.extend_from_slice(&us.to_be_bytes())?;
-        input.extend_from_slice(&us.to_be_bytes())?;
-        input.extend_from_slice(&size.to_be_bytes())?;
-        let payload = vec![in alloc; 7u8; *size as usize]?;
-        input.extend_from_slice(&payload)?;
+#[test]
+fn what_does_not_matter_for_sound_is_not_looked_at(rt: HostRuntime) -> Result<(), Fail> {
+    // Width and height, and the further bits of a record's flags.
+    let rows: [&[(usize, u8)]; 3] = [&[(12, 1), (13, 1)], &[(14, 1), (15, 1)], &[(25, 255)]];
+    for changes in rows {
+        let ended = run_words(rt.alloc(), &["record", "a"], &changed(changes))?;
+        assert_eq!(rt; ended.status, Status::Done);
+        assert_eq!(rt; only_size(&ended.shelf), Some(640));
     }
-    input.push(0)?;
-    Ok(input)
+    Ok(())
+}
+
+#[test]
+fn each_refusal_of_a_record_keeps_the_samples_before_it(rt: HostRuntime) -> Result<(), Fail> {
+    let alloc = rt.alloc();
+    let empty = CodedFault::Empty { at: 24 };
+    let long = CodedFault::TooLong {
+        at: 24,
+        len: 16_777_220,
+    };
+    // What is changed, the length, the fault, its place, and the size of the file of the samples before it.
+    let rows: [(&[(usize, u8)], usize, InputFault, u64, usize); 14] = [
+        (
+            &[(24, 2)],
+            103,
+            InputFault::Coded(CodedFault::Tag { at: 24, tag: 2 }),
+            24,
+            604,
+        ),
+        (
+            &[(50, 9)],
+            103,
+            InputFault::Coded(CodedFault::Tag { at: 50, tag: 9 }),
+            50,
+            632,
+        ),
+        (
+            &[(102, 255)],
+            103,
+            InputFault::Coded(CodedFault::Tag { at: 102, tag: 255 }),
+            102,
+            640,
+        ),
+        (
+            &[(50, 0)],
+            103,
+            InputFault::Coded(CodedFault::Trailing { at: 51 }),
+            51,
+            632,
+        ),
+        (&[(45, 0)], 103, InputFault::Coded(empty), 24, 604),
+        (&[(42, 1)], 103, InputFault::Coded(long), 24, 604),
+        // No sync sample.
+        (&[(25, 0)], 103, InputFault::NotYet, 24, 604),
+        (&[(25, 254)], 103, InputFault::NotYet, 24, 604),
+        // Another time to be shown at.
+        (&[(41, 1)], 103, InputFault::NotYet, 24, 604),
+        // Later than a second.
+        (&[(57, 0x10), (65, 0x10)], 103, InputFault::NotYet, 50, 632),
+        // Earlier than the one before.
+        (&[(84, 0), (92, 0)], 103, InputFault::NotYet, 76, 636),
+        // The record's own refusals come before its form.
+        (&[(25, 0), (45, 0)], 103, InputFault::Coded(empty), 24, 604),
+        (
+            &[(25, 0)],
+            49,
+            InputFault::Coded(CodedFault::Truncated { at: 49 }),
+            49,
+            604,
+        ),
+        (
+            &[(43, 0x40)],
+            103,
+            InputFault::Coded(CodedFault::Truncated { at: 103 }),
+            103,
+            604,
+        ),
+    ];
+    for (changes, length, why, place, size) in rows {
+        let input = changed(changes);
+        let ended = run_words(alloc, &["record", "a"], &input[..length])?;
+        let fault = TrackFault { why, place };
+        assert_eq!(rt; ended.status, Status::InputRefused { track: 0, fault });
+        assert_eq!(rt; only_size(&ended.shelf), Some(size), "at {place}");
+        assert_eq!(rt; ended.text.bytes(), line(alloc, place)?.as_bytes());
+    }
+    Ok(())
 }
 
 #[test]
@@ -125,7 +184,7 @@ fn nothing_follows_the_end(rt: HostRuntime) -> Result<(), Fail> {
     input[..103].copy_from_slice(&INPUT);
     let ended = run_words(rt.alloc(), &["record", "a"], &input)?;
     let fault = TrackFault {
-        why: InputFault::NotYet,
+        why: InputFault::Coded(CodedFault::Trailing { at: 103 }),
         place: 103,
     };
     assert_eq!(rt; ended.status, Status::InputRefused { track: 0, fault });

@@ -8,7 +8,7 @@ const USAGE: &[u8] =
 
 #[test]
 fn words_that_are_no_command_are_refused(rt: HostRuntime) -> Result<(), Fail> {
-    let rows: [(&[&str], UsageFault); 9] = [
+    let rows: [(&[&str], UsageFault); 14] = [
         (&[], UsageFault::Command),
         (&[""], UsageFault::Command),
         (&["Record", "a"], UsageFault::Command),
@@ -18,6 +18,11 @@ fn words_that_are_no_command_are_refused(rt: HostRuntime) -> Result<(), Fail> {
         (&["record", "-"], UsageFault::Words),
         (&["record", "-a"], UsageFault::Words),
         (&["record", "a", "a"], UsageFault::Words),
+        (&["lists", "a"], UsageFault::Command),
+        (&["list"], UsageFault::Words),
+        (&["list", ""], UsageFault::Words),
+        (&["list", "-a"], UsageFault::Words),
+        (&["list", "a", "a"], UsageFault::Words),
     ];
     for (words, fault) in rows {
         let ended = run_words(rt.alloc(), words, &INPUT)?;
@@ -41,6 +46,7 @@ fn each_answer_has_its_code(rt: HostRuntime) {
         (Status::ReadFault { input: 0 }, 4),
         (Status::WriteFault, 5),
         (Status::InputRefused { track: 0, fault }, 6),
+        (Status::MovieRefused(MovieFault::NoMoov { at: 0 }), 7),
         (Status::NoMemory, 10),
     ];
     for (status, code) in codes {

@@ -22,5 +22,5 @@ put_moov-requires c = rw (c.deref.ensures.value, c.in_ok-deltas.ensures) (narrow
 pub returns : goal.returns
 unfolding movie_box
 returns c =
-    rw (c.in_ok-put_moov.ensures.put, c.new-out.ensures, c.deref.ensures.value, c.in_ok-deltas.ensures, moov_one c.args.samples.now)
+    rw (c.in_ok-put_moov.ensures.put, c.new-out.ensures, c.deref.ensures.value, c.in_ok-deltas.ensures, moov_one c.args.samples.now c.requires)
     (sym (tiled_one (codes "moov") (tiled (moov_parts 48000 aac_entry (one_chunk c.args.samples.now)))))

@@ -1,5 +1,6 @@
 use Rattle.std.proofs.Common.{◌≡◌, ◌++◌, drop}
-use Rattle.sf_meaning.specs.Layout.{decodes_of, differences, deltas_of}
+use Rattle.sf_meaning.specs.Layout.{decodes_of}
+use Rattle.sf_meaning.specs.Stbl.{differences, deltas_of}
 use Rattle.sf_meaning.specs.Writable.{Paced}
 use Rattle.sf_app.proofs.tables.deltas.Given as goal
 

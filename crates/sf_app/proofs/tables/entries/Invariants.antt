@@ -1,5 +1,5 @@
 use Rattle.std.proofs.Common.{◌≡◌, ◌+◌, ◌≤◌, ◌++◌, drop, map, vec_len}
-use Rattle.sf_meaning.specs.Layout.{spread_from}
+use Rattle.sf_meaning.specs.Stbl.{spread_from}
 use Rattle.sf_app.specs.Tables.{spread_of}
 use Rattle.sf_app.proofs.tables.entries.Given as goal
 

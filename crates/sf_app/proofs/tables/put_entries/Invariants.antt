@@ -1,6 +1,6 @@
 use Rattle.std.proofs.Common.{◌≡◌, ◌++◌, take, map}
 use Rattle.std.specs.List.{flat_map}
-use Rattle.sf_meaning.specs.Layout.{spread_bytes}
+use Rattle.sf_meaning.specs.Stbl.{spread_bytes}
 use Rattle.sf_app.specs.Tables.{spread_of}
 use Rattle.sf_app.proofs.tables.put_entries.Given as goal
 

@@ -1,6 +1,6 @@
 use Rattle.std.proofs.Common.{◌≡◌, ◌++◌, take}
 use Rattle.std.specs.List.{flat_map}
-use Rattle.sf_meaning.specs.Layout.{run_bytes}
+use Rattle.sf_meaning.specs.Stbl.{run_bytes}
 use Rattle.sf_app.proofs.tables.put_runs.Given as goal
 
 abbrev pub invariant-loop-count : goal.invariant-loop-count

@@ -1,7 +1,7 @@
 use Rattle.std.proofs.Common.{◌≡◌, ◌++◌, codes, refl, arith}
 use Rattle.std.proofs.lemmas.Grind.{common_steps}
 use Rattle.sf_box.specs.Boxes.{opened}
-use Rattle.sf_meaning.specs.Layout.{stts_body}
+use Rattle.sf_meaning.specs.Stbl.{stts_body}
 use Rattle.sf_app.proofs.tables.put_stts.Goals as goal
 
 pub returns-clause-put : goal.returns-clause-put

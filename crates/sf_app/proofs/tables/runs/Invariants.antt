@@ -1,5 +1,5 @@
 use Rattle.std.proofs.Common.{◌≡◌, ◌+◌, ◌≤◌, ◌++◌, drop, vec_len}
-use Rattle.sf_meaning.specs.Layout.{runs_of}
+use Rattle.sf_meaning.specs.Stbl.{runs_of}
 use Rattle.sf_app.proofs.Runs.{more_in_front}
 use Rattle.sf_app.proofs.tables.runs.Given as goal
 

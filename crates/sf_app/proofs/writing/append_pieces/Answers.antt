@@ -1,5 +1,5 @@
-use Rattle.std.proofs.Common.{◌++◌, rules}
-use Rattle.sf_app.proofs.Parts.{part_front, part_behind, grown_twice}
+use Rattle.std.proofs.Common.{rules}
+use Rattle.sf_app.proofs.Parts.{part_front, part_behind}
 use Rattle.sf_app.proofs.writing.append_pieces.Goals as goal
 
 pub returns-in_err-append_piece-2-clause-err : goal.returns-in_err-append_piece-2-clause-err

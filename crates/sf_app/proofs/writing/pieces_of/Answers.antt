@@ -1,5 +1,4 @@
-use Rattle.std.proofs.Common.{◌≡◌, ◌<◌, ◌+◌, ◌++◌, ◌^◌, length, ap, ◌∙◌, arith, length-append}
-use Rattle.sf_meaning.specs.Layout.{stored_bytes}
+use Rattle.std.proofs.Common.{◌≡◌, ◌++◌, length, ap, arith, length-append}
 use Rattle.sf_app.specs.Kept.{file_of}
 use Rattle.sf_app.proofs.FileOf.{narrow_sum, pieces_are_file, file_short}
 use Rattle.sf_app.proofs.writing.pieces_of.Goals as goal

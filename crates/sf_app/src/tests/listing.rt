@@ -1,0 +1,278 @@
+//! The list of a movie, over sources and texts in memory.
+
+ghost use Rattle.std.specs.Prelude.{◌≡◌, None, length};
+ghost use Rattle.std.proofs.Common.{lit<};
+
+use super::inputs::FILE;
+use super::*;
+use sf_box::BoxFault;
+use sf_meaning::MovieFault;
+use sf_world::{Denied, Failed, Fits, Measure, MemSource, Shelf, Sink, Source};
+use std::test::Fail;
+
+/// The list of the file of three samples.
+const LINES: &[u8] = b"start 0\n\
+    track 0 aac 48000 3 3 0\n\
+    sample 0 0 0 0 1 4\n\
+    sample 0 1 1024 1024 1 4\n\
+    sample 0 2 2048 2048 1 4\n";
+
+/// A source of these bytes, whose reads with the failing numbers fail.
+fn source_of(alloc: Global, file: &[u8], failing: Vec<u64>) -> Result<MemSource, AllocError> {
+    Ok(MemSource::new(alloc, Bytes::from_slice(alloc, file)?, failing))
+}
+
+#[test]
+fn each_sample_has_a_line(rt: HostRuntime) -> Result<(), Fail> {
+    let alloc = rt.alloc();
+    let mut source = source_of(alloc, &FILE, Vec::new(alloc))?;
+    let mut text = MemText::new(alloc);
+    assert_eq!(rt; list_movie(alloc, &mut source, &mut text), Ok(()));
+    assert_eq!(rt; text.bytes(), LINES);
+    Ok(())
+}
+
+// The file has three boxes, whose heads are read first, and then the body of the last one.
+#[test]
+fn each_read_fails_before_the_first_line(rt: HostRuntime) -> Result<(), Fail> {
+    let alloc = rt.alloc();
+    for failing in 0..5u64 {
+        let mut source = source_of(alloc, &FILE, vec![in alloc; failing]?)?;
+        let mut text = MemText::new(alloc);
+        let answer = list_movie(alloc, &mut source, &mut text);
+        let (wanted, lines) = if failing < 4 {
+            (Err(ListFault::ReadFault), b"".as_slice())
+        } else {
+            (Ok(()), LINES)
+        };
+        assert_eq!(rt; answer, wanted, "at {failing}");
+        assert_eq!(rt; text.bytes(), lines, "at {failing}");
+    }
+    Ok(())
+}
+
+/// Lists a file into a text whose append with the failing number fails: the answer, and how many bytes the text has then.
+fn listed_by(
+    alloc: Global,
+    file: &[u8],
+    failing: u64,
+) -> Result<(Result<(), ListFault>, Option<usize>), Fail> {
+    let mut source = source_of(alloc, file, Vec::new(alloc))?;
+    let mut texts = MemShelf::new(alloc, Vec::new(alloc));
+    texts.fail_on(1, failing)?;
+    let Ok(mut text) = texts.create("text") else {
+        return Err(Fail::from(Status::NoMemory));
+    };
+    let answer = list_movie(alloc, &mut source, &mut text);
+    texts.keep(text);
+    Ok((answer, only_size(&texts)))
+}
+
+// So short a list is put into the text at once.
+#[test]
+fn a_text_that_fails_gains_no_more(rt: HostRuntime) -> Result<(), Fail> {
+    let rows = [(0, Err(ListFault::WriteFault), 0), (1, Ok(()), LINES.len())];
+    for (failing, wanted, size) in rows {
+        let (answer, gained) = listed_by(rt.alloc(), &FILE, failing)?;
+        assert_eq!(rt; answer, wanted, "at {failing}");
+        assert_eq!(rt; gained, Some(size), "at {failing}");
+    }
+    Ok(())
+}
+
+// The list of 4000 samples has 8 + 30 bytes in its first two lines, and then lines of 19 bytes for the
+// samples 0 to 9, of 20 to 99, of 21 to 999 and of 22 behind: 86928 bytes in all. What was gathered is put
+// into the text once it has 65536 bytes or more, which is behind the sample 3027: 65544 bytes.
+#[test]
+fn a_long_list_is_put_into_the_text_in_parts(rt: HostRuntime) -> Result<(), Fail> {
+    let alloc = rt.alloc();
+    let samples = vec![in alloc; (0u64, 4u32); 4000]?;
+    let input = input_of(alloc, &samples)?;
+    let ended = run_words(alloc, &["record", "a"], &input)?;
+    let Some(file) = ended.shelf.file(0) else {
+        return Err(Fail::from(ended.status));
+    };
+    let rows = [
+        (0, Err(ListFault::WriteFault), 0),
+        (1, Err(ListFault::WriteFault), 65_544),
+        (2, Ok(()), 86_928),
+    ];
+    for (failing, wanted, size) in rows {
+        let (answer, gained) = listed_by(alloc, file, failing)?;
+        assert_eq!(rt; answer, wanted, "at {failing}");
+        assert_eq!(rt; gained, Some(size), "at {failing}");
+    }
+    Ok(())
+}
+
+/// What is wrong with a first part of the file.
+fn fault_at(length: u64) -> MovieFault {
+    match length {
+        0 | 24 | 52 => MovieFault::NoMoov { at: length },
+        1..=7 => MovieFault::Tiling(BoxFault::Short { at: 0 }),
+        8..=23 => MovieFault::Tiling(BoxFault::Overrun { at: 0, size: 24 }),
+        25..=39 => MovieFault::Tiling(BoxFault::Short { at: 24 }),
+        40..=51 => MovieFault::Tiling(BoxFault::Overrun { at: 24, size: 28 }),
+        53..=59 => MovieFault::Tiling(BoxFault::Short { at: 52 }),
+        _ => MovieFault::Tiling(BoxFault::Overrun { at: 52, size: 588 }),
+    }
+}
+
+#[test]
+fn a_file_that_is_cut_short_is_refused_at_its_box(rt: HostRuntime) -> Result<(), Fail> {
+    let alloc = rt.alloc();
+    for length in 0..640usize {
+        let mut source = source_of(alloc, &FILE[..length], Vec::new(alloc))?;
+        let mut text = MemText::new(alloc);
+        let answer = list_movie(alloc, &mut source, &mut text);
+        let fault = fault_at(length as u64);
+        assert_eq!(rt; answer, Err(ListFault::Refused(fault)), "at {length}");
+        assert!(rt; text.bytes().is_empty(), "at {length}");
+    }
+    Ok(())
+}
+
+/// A source of 5 GiB and more whose bytes are 0 but for those of two pieces, the second of which ends it.
+#[derive(Drop)]
+struct HoleSource {
+    front: Bytes,
+    length: u64,
+    back: Bytes,
+}
+
+impl Fits for HoleSource {
+    ghost fits = { λ source name. (source.length ≡ name.length) × (None ≡ name.content) };
+}
+
+impl Measure for HoleSource {
+    ghost measure = { λ source. 0 };
+}
+
+/// Copies bytes that stand at a place over those of a buffer that stand at another.
+fn copy_over(bytes: &[u8], place: u64, at: u64, into: &mut [u8])
+    ensures { length into.new ≡ length into.old }
+{
+    for index in 0..into.len() {
+        let here = at.saturating_add(index as u64);
+        if here >= place {
+            if let Some(byte) = bytes.get((here - place) as usize) {
+                into[index] = *byte;
+            }
+        }
+    }
+}
+
+impl Source for HoleSource {
+    ghost contents = { λ source. None };
+
+    ghost size = { λ source. source.length };
+
+    ghost whole = { λ source. tt };
+
+    ghost bounded = { λ source. lit< tt };
+
+    ghost fitting = { λ source name fits. fits };
+
+    ghost fits_if = { λ source name fits. fits };
+
+    fn length(&self) -> u64 {
+        self.length
+    }
+
+    fn read_at(&mut self, at: u64, into: &mut [u8]) -> Result<usize, Failed> {
+        if at >= self.length {
+            return Ok(0);
+        }
+        let count = (into.len() as u64).min(self.length - at);
+        for byte in into.iter_mut() {
+            *byte = 0;
+        }
+        let last = self.length.saturating_sub(self.back.len() as u64);
+        copy_over(self.front.as_slice(), 0, at, into);
+        copy_over(self.back.as_slice(), last, at, into);
+        Ok(count as usize)
+    }
+}
+
+// The body of mdat has 5 GiB: its box has 5368709136 bytes, which is 1_4000_0010 in hexadecimal.
+#[test]
+fn a_media_data_box_of_5_gib_is_passed_over(rt: HostRuntime) -> Result<(), Fail> {
+    let alloc = rt.alloc();
+    let mut front = Bytes::from_slice(alloc, &FILE[..24])?;
+    front.append(b"\0\0\0\x01mdat\0\0\0\x01\x40\0\0\x10")?;
+    let back = Bytes::from_slice(alloc, &FILE[52..])?;
+    let mut source = HoleSource {
+        front,
+        length: 24 + 5_368_709_136 + 588,
+        back,
+    };
+    let mut text = MemText::new(alloc);
+    assert_eq!(rt; list_movie(alloc, &mut source, &mut text), Ok(()));
+    assert_eq!(rt; text.bytes(), LINES);
+    Ok(())
+}
+
+#[test]
+fn a_movie_of_a_name_is_listed(rt: HostRuntime) -> Result<(), Fail> {
+    let rows: [(&[&str], &[u8], Status, &[u8]); 3] = [
+        (&["list", "a"], &FILE, Status::Done, LINES),
+        (
+            &["list", "a"],
+            &FILE[..52],
+            Status::MovieRefused(MovieFault::NoMoov { at: 52 }),
+            b"movie refused\n",
+        ),
+        (
+            &["list", "b"],
+            &FILE,
+            Status::OpenFault { input: 0 },
+            b"cannot open input 0\n",
+        ),
+    ];
+    for (words, file, status, lines) in rows {
+        let ended = run_words(rt.alloc(), words, file)?;
+        assert_eq!(rt; ended.status, status);
+        assert_eq!(rt; ended.text.bytes(), lines);
+        assert!(rt; ended.shelf.file(0).is_none());
+    }
+    Ok(())
+}
+
+#[test]
+fn a_failed_read_ends_the_list(rt: HostRuntime) -> Result<(), Fail> {
+    let alloc = rt.alloc();
+    let words = words_of(alloc, &["list", "a"])?;
+    for failing in 0..4u64 {
+        let mut inputs = inputs_of(alloc, &FILE, vec![in alloc; failing]?)?;
+        let mut shelf = MemShelf::new(alloc, Vec::new(alloc));
+        let mut text = MemText::new(alloc);
+        let status = run(alloc, &words, &mut inputs, &mut shelf, &mut text);
+        assert_eq!(rt; status, Status::ReadFault { input: 0 }, "at {failing}");
+        assert_eq!(rt;
+            text.bytes(),
+            b"cannot read input 0\n".as_slice(),
+            "at {failing}"
+        );
+        assert!(rt; shelf.file(0).is_none(), "at {failing}");
+    }
+    Ok(())
+}
+
+// A text that fails within the list gets no further line.
+#[test]
+fn a_failed_text_ends_the_list(rt: HostRuntime) -> Result<(), Fail> {
+    let alloc = rt.alloc();
+    let words = words_of(alloc, &["list", "a"])?;
+    let mut inputs = inputs_of(alloc, &FILE, Vec::new(alloc))?;
+    let mut shelf = MemShelf::new(alloc, Vec::new(alloc));
+    let mut texts = MemShelf::new(alloc, Vec::new(alloc));
+    texts.fail_on(1, 0)?;
+    let Ok(mut text) = texts.create("text") else {
+        return Err(Fail::from(Status::NoMemory));
+    };
+    let status = run(alloc, &words, &mut inputs, &mut shelf, &mut text);
+    texts.keep(text);
+    assert_eq!(rt; status, Status::WriteFault);
+    assert_eq!(rt; only_size(&texts), Some(0));
+    Ok(())
+}
