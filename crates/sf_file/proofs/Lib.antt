@@ -1,0 +1,6 @@
+pub mod Lengths
+pub mod Room
+pub mod FirstParts
+pub mod ClosedFile
+pub mod Holdable
+pub mod HoldableGrows

@@ -1,0 +1,5 @@
+use Rattle.sf_file.proofs.HoldableGrows.{nothing_holdable}
+use Rattle.sf_file.proofs.laws.no_chunks.Goals as goal
+
+pub returns : goal.returns
+returns c = nothing_holdable

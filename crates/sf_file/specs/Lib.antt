@@ -1,0 +1,4 @@
+pub mod Movie
+pub mod Open
+pub mod OpenCode
+pub mod Holdable

@@ -1,0 +1,91 @@
+-- A file that is being written, and which chunks it holds.
+use Rattle.std.specs.Prelude.{◌≡◌, ℕ, ◌+◌, ◌*◌, ◌^◌, ◌<◌, ◌≤◌, ◌⊎◌, List, [], ◌++◌, length, take, Option, Some, None, IfSome}
+use Rattle.sf_tick.specs.Tick.{tick}
+use Rattle.sf_tick.specs.declared.types.Chunk.{Chunk}
+use Rattle.sf_world.specs.Contents.{grown, Spoils}
+use Rattle.sf_meaning.specs.Stbl.{timed_of}
+use Rattle.sf_meaning.specs.Layout.{samples_of, stored_bytes, rows_of}
+use Rattle.sf_gather.specs.declared.given.LastSample.{LastSample}
+use Rattle.sf_gather.specs.Accepting.{last_of}
+use Rattle.sf_gather.specs.Proper.{AllFollow}
+use Rattle.sf_tables.specs.Rows.{TrackTables, AllHaveRoom, first_dts_with, last_in_rows, with_chunk}
+use Rattle.sf_file.specs.Movie.{file_head, movie_box}
+
+-- A file that is being written: the ticks a second of its track, the sample entry, what its tables hold, the last sample, where the next chunk begins, and its sink.
+pub record OpenFile (S : Type 0) : Type 0 where
+  pub scale : ℕ
+  pub entry : List ℕ
+  pub tables : TrackTables
+  pub last : Option LastSample
+  pub end : ℕ
+  pub sink : S
+
+-- the start of a file, from when the first sample of its track is decoded
+abbrev pub start_of : Option ℕ → ℕ
+start_of None = 0
+start_of (Some us) = us
+
+-- the movie box of the file as it is
+abbrev pub closing_box : {S : Type 0} → OpenFile S → List ℕ
+closing_box file = movie_box file.scale file.entry (start_of file.tables.first_dts) file.tables.rows
+
+-- the movie box of the file with one more chunk
+abbrev pub closing_box_with : {S : Type 0} → OpenFile S → Chunk → List ℕ
+closing_box_with file chunk =
+    movie_box file.scale file.entry (start_of (first_dts_with file.tables.first_dts chunk.samples)) (with_chunk file.tables.rows file.end chunk)
+
+-- the bytes of a file that isn't closed: the size of its media data box is that of its head
+abbrev pub opened : List Chunk → List ℕ
+opened chunks = file_head 16 ++ stored_bytes (samples_of chunks)
+
+-- An open file holds these chunks. Its sink was empty when the file began.
+pub record Stands {S : Type 0} (contents : S → Option (List ℕ)) (begun : Option (List ℕ)) (chunks : List Chunk) (file : OpenFile S) : Type 0 where
+  pub rows : file.tables.rows ≡ rows_of chunks
+  pub first : file.tables.first_dts ≡ first_dts_with None (samples_of chunks)
+  pub last : file.last ≡ last_of (samples_of chunks)
+  pub end : file.end ≡ 40 + length (stored_bytes (samples_of chunks))
+  pub told : contents file.sink ≡ grown begun (opened chunks)
+
+-- a sink that tells its bytes tells that it is empty
+abbrev pub IsEmpty : Option (List ℕ) → Type 0
+IsEmpty None = Unit {0}
+IsEmpty (Some bytes) = bytes ≡ []
+
+-- A chunk can be written behind the others: it isn't empty, its samples follow the last one, and the track has few enough.
+pub record Appendable {S : Type 0} (file : OpenFile S) (chunk : Chunk) : Type 0 where
+  pub some : 1 ≤ length chunk.samples
+  pub follow : AllFollow file.scale file.last chunk.samples
+  pub few : length (timed_of file.tables.rows) + length chunk.samples < 2 ^ 32
+
+-- Some first part of the bytes was put at the end.
+pub record GainsPart (whole : List ℕ) (before after : Option (List ℕ)) : Type 0 where
+  pub count : ℕ
+  pub part : count ≤ length whole
+  pub contents : after ≡ grown before (take count whole)
+
+-- what is left of a file whose closing failed: a part of the movie box lacks, or the size of the media data box is spoilt
+abbrev pub HalfClosed : List ℕ → Option (List ℕ) → Option (List ℕ) → Type 0
+HalfClosed box before after = GainsPart box before after ⊎ Spoils (grown before box) 32 8 after
+
+-- the ticks of the last sample
+abbrev pub last_ticks : Option LastSample → Option ℕ
+last_ticks None = None
+last_ticks (Some last) = Some last.decode
+
+-- the last sample is timed as its track is
+pub record IsTimed (scale : ℕ) (last : LastSample) : Type 0 where
+  pub early : last.dts_us ≤ 2 ^ 48
+  pub decode : last.decode ≡ tick last.dts_us scale
+
+-- What holds of an open file at every moment.
+pub record Sound (scale : ℕ) (entry : List ℕ) (tables : TrackTables) (last : Option LastSample) (end size : ℕ) : Type 0 where
+  pub ticks : 1 ≤ scale
+  pub short : length entry ≤ 2 ^ 27
+  pub room : AllHaveRoom None (timed_of tables.rows)
+  pub behind : last_ticks last ≡ last_in_rows tables.rows
+  pub timed : IfSome last (λ l. IsTimed scale l)
+  pub few : length (timed_of tables.rows) < 2 ^ 32
+  pub near : end ≤ 40 + 2 ^ 25 * length (timed_of tables.rows)
+  pub box : length (movie_box scale entry (start_of tables.first_dts) tables.rows) ≤ 2 ^ 28
+  pub far : 40 ≤ end
+  pub head : 40 ≤ size

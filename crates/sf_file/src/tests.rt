@@ -1,0 +1,183 @@
+ghost use Rattle.std.specs.Prelude.{◌≡◌, ◌+◌, ◌^◌, ◌<◌, ◌≤◌, length, IsTrue, IfSome, Option};
+ghost use Rattle.sf_gather.specs.Proper.{AllFollow, Follows};
+ghost use Rattle.sf_file.specs.Open.{Appendable};
+
+use super::*;
+use sf_gather::LastSample;
+use sf_list::Bytes;
+use sf_tick::{Chunk, Samples, Stored, to_tick};
+use sf_world::{MemShelf, MemSink, Shelf, Sink};
+use std::alloc::{AllocError, Global};
+use std::test::Fail;
+
+mod bytes;
+mod failures;
+mod sizes;
+
+/// The sample entry box of AAC at 48000 Hz with two channels: 87 bytes (ISO/IEC 14496-12, 12.2.3;
+/// ISO/IEC 14496-14, 5.6).
+const ENTRY: [u8; 87] = *b"\0\0\0\x57mp4a\0\0\0\0\0\0\0\x01\0\0\0\0\0\0\0\0\
+    \0\x02\0\x10\0\0\0\0\xBB\x80\0\0\
+    \0\0\0\x33esds\0\0\0\0\x03\x80\x80\x80\x22\0\0\0\
+    \x04\x80\x80\x80\x14\x40\x15\0\0\0\0\0\0\0\0\0\0\0\
+    \x05\x80\x80\x80\x02\x11\x90\x06\x80\x80\x80\x01\x02";
+
+/// The bytes of each sample.
+const SAMPLE: [u8; 4] = [0x21, 0x10, 0x04, 0x60];
+
+/// When a sample is decoded, in microseconds and in ticks.
+type Times = (u64, u64);
+
+/// Three samples at 48000 ticks a second, each 1024 ticks long.
+const THREE: [Times; 3] = [(0, 0), (21_333, 1024), (42_667, 2048)];
+
+/// Why a file of the tests wasn't written.
+#[derive(Clone, Copy, Debug, PartialEq, Eq)]
+enum Stop {
+    /// There is no file, or a chunk doesn't fit behind the others.
+    Unfit,
+    Fault(FileFault),
+}
+
+impl From<AllocError> for Stop {
+    fn from(_: AllocError) -> Stop {
+        Stop::Fault(FileFault::NoMemory)
+    }
+}
+
+/// A chunk of samples with these times.
+fn chunk(alloc: Global, times: &[Times]) -> Result<Chunk, AllocError> {
+    let mut samples = Samples::new(alloc);
+    for (dts_us, decode) in times {
+        samples.push(Stored {
+            dts_us: *dts_us,
+            decode: *decode,
+            compose: *decode,
+            sync: true,
+            bytes: Bytes::from_slice(alloc, &SAMPLE)?,
+        })?;
+    }
+    Ok(Chunk {
+        track: 0,
+        number: 0,
+        first_us: 0,
+        samples,
+        last: false,
+    })
+}
+
+/// Whether a sample is behind the last one, and near enough.
+fn is_behind(last: Option<LastSample>, sample: &Stored) -> bool
+    ensures rises { IsTrue result → IfSome last (λ l. l.dts_us ≤ sample.now.dts_us) }
+    ensures near { IsTrue result → IfSome last (λ l. sample.now.decode < l.decode + 2 ^ 32) }
+{
+    match last {
+        Some(last) => {
+            last.dts_us <= sample.dts_us && sample.decode.saturating_sub(last.decode) < 1 << 32
+        }
+        None => true,
+    }
+}
+
+/// Whether a sample can stand behind the last one. Its composition tick is that of its decoding.
+fn follows(scale: u32, last: Option<LastSample>, sample: &Stored) -> bool
+    requires { 1 ≤ scale }
+    ensures { IsTrue result → Follows scale last sample.now }
+{
+    sample.dts_us <= 1 << 48
+        && is_behind(last, sample)
+        && sample.decode == to_tick(sample.dts_us, scale)
+        && sample.compose == sample.decode
+        && sample.compose <= to_tick(1 << 48, scale)
+        && !sample.bytes.is_empty()
+        && sample.bytes.len() <= 1 << 25
+}
+
+/// Whether all samples can stand behind the last one, one after the other.
+fn all_follow(scale: u32, last: Option<LastSample>, samples: &[Stored]) -> bool
+    requires { 1 ≤ scale }
+    ensures { IsTrue result → AllFollow scale last samples.now }
+{
+    let [first, others @ ..] = samples else {
+        return true;
+    };
+    let kept = LastSample {
+        dts_us: first.dts_us,
+        decode: first.decode,
+    };
+    follows(scale, last, first) && all_follow(scale, Some(kept), others)
+}
+
+/// Whether a chunk can be written behind the others.
+fn is_appendable<S: Sink>(file: &OutFile<S>, chunk: &Chunk) -> bool
+    ensures { IsTrue result → Appendable file.now chunk.now }
+{
+    !chunk.samples.is_empty()
+        && all_follow(file.scale, file.last, chunk.samples.as_slice())
+        && file
+            .tables
+            .count()
+            .saturating_add(chunk.samples.len() as u64)
+            < 1 << 32
+}
+
+/// Writes a chunk, and gives what the file was told to be with it.
+fn append<S: Sink>(file: &mut OutFile<S>, chunk: &Chunk) -> Result<Closing, Stop> {
+    if !is_appendable(file, chunk) {
+        return Err(Stop::Unfit);
+    }
+    let told = file.size_with(chunk);
+    if told.movie_box > 1 << 28 {
+        return Err(Stop::Unfit);
+    }
+    match file.append(chunk) {
+        Ok(()) => Ok(told),
+        Err(fault) => Err(Stop::Fault(fault)),
+    }
+}
+
+/// Writes chunks of samples with these times, and closes the file where all were written. The sink
+/// comes back with why it wasn't closed.
+fn finish<S: Sink>(alloc: Global, file: OutFile<S>, chunks: &[&[Times]]) -> (S, Result<(), Stop>) {
+    let mut file = file;
+    for times in chunks {
+        let appended = match chunk(alloc, times) {
+            Ok(chunk) => append(&mut file, &chunk),
+            Err(_) => Err(Stop::Fault(FileFault::NoMemory)),
+        };
+        if let Err(stop) = appended {
+            return (file.give_sink(), Err(stop));
+        }
+    }
+    match file.close() {
+        Ok(sink) => (sink, Ok(())),
+        Err((sink, fault)) => (sink, Err(Stop::Fault(fault))),
+    }
+}
+
+/// Writes a file of chunks of samples with these times, and keeps it on the shelf as far as it was
+/// written.
+fn write<H: Shelf>(
+    alloc: Global,
+    shelf: &mut H,
+    scale: u32,
+    chunks: &[&[Times]],
+) -> Result<(), Stop>
+    requires { 1 ≤ scale }
+{
+    let entry = Bytes::from_slice(alloc, &ENTRY)?;
+    let Ok(sink) = shelf.create("file") else {
+        return Err(Stop::Unfit);
+    };
+    let (sink, ended) = match OutFile::begin(alloc, sink, scale, entry) {
+        Ok(file) => finish(alloc, file, chunks),
+        Err((sink, fault)) => (sink, Err(Stop::Fault(fault))),
+    };
+    shelf.keep(sink);
+    ended
+}
+
+/// Whether these bytes stand at a place in others.
+fn stand_at(bytes: &[u8], at: usize, wanted: &[u8]) -> bool {
+    at <= bytes.len() && bytes.split_at(at).1.starts_with(wanted)
+}

@@ -1,0 +1,55 @@
+//! What a file is told to be.
+
+use super::*;
+
+/// A file of no chunk, at 48000 ticks a second.
+fn begun(alloc: Global) -> Result<OutFile<MemSink>, Stop> {
+    let entry = Bytes::from_slice(alloc, &ENTRY)?;
+    let mut shelf = MemShelf::new(alloc, Vec::new(alloc));
+    let Ok(sink) = shelf.create("file") else {
+        return Err(Stop::Unfit);
+    };
+    match OutFile::begin(alloc, sink, 48_000, entry) {
+        Ok(file) => Ok(file),
+        Err((_, fault)) => Err(Stop::Fault(fault)),
+    }
+}
+
+#[test]
+fn a_file_tells_its_size_before_and_after_a_chunk(rt: HostRuntime) -> Result<(), Fail> {
+    let mut file = begun(rt.alloc())?;
+    assert_eq!(rt;
+        (file.size(), file.start_us(), file.is_empty()),
+        (604, 0, true)
+    );
+    let first = append(&mut file, &chunk(rt.alloc(), &THREE)?)?;
+    let wanted = Closing {
+        bytes: 640,
+        movie_box: 588,
+        samples: 3,
+    };
+    assert_eq!(rt; first, wanted);
+    assert_eq!(rt;
+        (file.size(), file.start_us(), file.is_empty()),
+        (640, 0, false)
+    );
+    // A second chunk of one sample adds its 4 bytes, 12 to stsc and 4 to stco.
+    let second = append(&mut file, &chunk(rt.alloc(), &[(64_000, 3072)])?)?;
+    let wanted = Closing {
+        bytes: 660,
+        movie_box: 604,
+        samples: 4,
+    };
+    assert_eq!(rt; second, wanted);
+    assert_eq!(rt; file.size(), 660);
+    Ok(())
+}
+
+#[test]
+fn a_file_starts_with_its_first_chunk(rt: HostRuntime) -> Result<(), Fail> {
+    let mut file = begun(rt.alloc())?;
+    append(&mut file, &chunk(rt.alloc(), &[(1_000_000, 48_000)])?)?;
+    append(&mut file, &chunk(rt.alloc(), &[(1_021_333, 49_024)])?)?;
+    assert_eq!(rt; file.start_us(), 1_000_000);
+    Ok(())
+}
