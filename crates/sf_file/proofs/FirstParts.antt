@@ -1,7 +1,6 @@
 -- Some first part of bytes.
 use Rattle.std.proofs.Common.{◌≡◌, ℕ, List, [], Option, Some, None, refl, ap, sym, ◌∙◌, append-nil, arith}
-use Rattle.sf_world.specs.Contents.{grown}
-use Rattle.sf_file.specs.Open.{GainsPart}
+use Rattle.sf_world.specs.Contents.{GainsPart, grown}
 
 grown_none : (before : Option (List ℕ)) → grown before [] ≡ before
 grown_none None = refl

@@ -4,3 +4,4 @@ pub mod FirstParts
 pub mod ClosedFile
 pub mod Holdable
 pub mod HoldableGrows
+pub mod Counts

@@ -11,12 +11,12 @@ use Rattle.sf_tick.proofs.Ticks.{tick_rises}
 use Rattle.sf_tick.specs.declared.types.Stored.{Stored}
 use Rattle.sf_tick.specs.declared.types.Chunk.{Chunk}
 use Rattle.sf_meaning.specs.Stbl.{Timed, Row, timed_of, ticks_of, differences, deltas_of, duration_in_rows}
-use Rattle.sf_meaning.specs.Layout.{stored_bytes}
+use Rattle.sf_meaning.specs.Layout.{stored_bytes, timed, row_at}
 use Rattle.sf_gather.specs.declared.given.LastSample.{LastSample}
 use Rattle.sf_gather.specs.Accepting.{kept_of, last_from}
 use Rattle.sf_gather.specs.Proper.{Follows, AllFollow}
 use Rattle.sf_gather.proofs.Accepted.{last_from-append}
-use Rattle.sf_tables.specs.Rows.{timed_as, row_at, with_chunk, last_tick, last_in_rows, HasRoom, AllHaveRoom, Addable}
+use Rattle.sf_tables.specs.Rows.{with_chunk, last_tick, last_in_rows, HasRoom, AllHaveRoom, Addable}
 use Rattle.sf_file.specs.Movie.{microseconds}
 use Rattle.sf_file.specs.Open.{last_ticks, IsTimed, OpenFile, Appendable, Sound}
 
@@ -41,18 +41,18 @@ late_by f = let o = f.offset in grind (arith, nat_tests)
 pub early_by : {scale : ℕ} {last : Option LastSample} {s : Stored} → Follows scale last s → s.decode ≤ s.compose + 2 ^ 31
 early_by f = let o = f.offset in grind (arith, nat_tests)
 
-one_room : (scale : ℕ) (last : Option LastSample) (s : Stored) → IfSome last (λ l. IsTimed scale l) → Follows scale last s → HasRoom (last_ticks last) (timed_as s)
+one_room : (scale : ℕ) (last : Option LastSample) (s : Stored) → IfSome last (λ l. IsTimed scale l) → Follows scale last s → HasRoom (last_ticks last) (timed s)
 one_room scale None s t f =
     record { rises = tt; near = tt; late = late_by f; early = early_by f; size = omega (arith, f.size) }
 one_room scale (Some l) s t f =
     let rises : tick l.dts_us scale ≤ tick s.dts_us scale = tick_rises l.dts_us s.dts_us scale f.rises in
     record { rises = rw (t.decode, f.decode) rises; near = f.near; late = late_by f; early = early_by f; size = omega (arith, f.size) }
 
-pub follow_room : (scale : ℕ) (last : Option LastSample) (ss : List Stored) → IfSome last (λ l. IsTimed scale l) → AllFollow scale last ss → AllHaveRoom (last_ticks last) (map timed_as ss)
+pub follow_room : (scale : ℕ) (last : Option LastSample) (ss : List Stored) → IfSome last (λ l. IsTimed scale l) → AllFollow scale last ss → AllHaveRoom (last_ticks last) (map timed ss)
 follow_room scale last [] t f = tt
 follow_room scale last (s ∷ ss) t f = (one_room scale last s t f.0, follow_room scale (Some (kept_of s)) ss (follows_timed scale last s f.0) f.1)
 
-pub follow_last : (last : Option LastSample) (ss : List Stored) → last_ticks (last_from last ss) ≡ last_tick (last_ticks last) (decodes (map timed_as ss))
+pub follow_last : (last : Option LastSample) (ss : List Stored) → last_ticks (last_from last ss) ≡ last_tick (last_ticks last) (decodes (map timed ss))
 follow_last last [] = refl
 follow_last last (s ∷ ss) = follow_last (Some (kept_of s)) ss
 
@@ -114,13 +114,13 @@ rows_short scale (Some l) rows some r e t =
     let decode : l.decode ≡ tick l.dts_us scale = t.decode in
     ticks_short scale l.dts_us (duration_in_rows rows) some t.early (omega (arith, d, z, decode))
 
-timed_of-append : (rows : List Row) (place : ℕ) (chunk : Chunk) → timed_of (with_chunk rows place chunk) ≡ timed_of rows ++ map timed_as chunk.samples
+timed_of-append : (rows : List Row) (place : ℕ) (chunk : Chunk) → timed_of (with_chunk rows place chunk) ≡ timed_of rows ++ map timed chunk.samples
 timed_of-append rows place chunk =
-    flat_map-append (λ (r : Row). r.samples) rows (row_at place chunk ∷ []) ∙ ap (λ (ss : List Timed). timed_of rows ++ ss) (append-nil (map timed_as chunk.samples))
+    flat_map-append (λ (r : Row). r.samples) rows (row_at place chunk ∷ []) ∙ ap (λ (ss : List Timed). timed_of rows ++ ss) (append-nil (map timed chunk.samples))
 
-ticks_of-append : (rows : List Row) (place : ℕ) (chunk : Chunk) → ticks_of (with_chunk rows place chunk) ≡ ticks_of rows ++ decodes (map timed_as chunk.samples)
+ticks_of-append : (rows : List Row) (place : ℕ) (chunk : Chunk) → ticks_of (with_chunk rows place chunk) ≡ ticks_of rows ++ decodes (map timed chunk.samples)
 ticks_of-append rows place chunk =
-    ap (λ (ss : List Timed). decodes ss) (timed_of-append rows place chunk) ∙ map-append (λ (s : Timed). s.decode) (timed_of rows) (map timed_as chunk.samples)
+    ap (λ (ss : List Timed). decodes ss) (timed_of-append rows place chunk) ∙ map-append (λ (s : Timed). s.decode) (timed_of rows) (map timed chunk.samples)
 
 -- What holds of the rows of a file with one more chunk.
 pub record Grows (scale : ℕ) (rows : List Row) (last : Option LastSample) (place : ℕ) (chunk : Chunk) : Type 0 where
@@ -137,26 +137,26 @@ pub grows : {S : Type 0} (file : OpenFile S) (chunk : Chunk) (size : ℕ) → So
     → Grows file.scale file.tables.rows file.last file.end chunk
 grows file chunk size s a =
     let rows : List Row = file.tables.rows in
-    let more : AllHaveRoom (last_ticks file.last) (map timed_as chunk.samples) = follow_room file.scale file.last chunk.samples s.timed a.follow in
-    let behind_rows : AllHaveRoom (last_in_rows rows) (map timed_as chunk.samples) =
-    subst (λ (t : Option ℕ). AllHaveRoom t (map timed_as chunk.samples)) s.behind more in
+    let more : AllHaveRoom (last_ticks file.last) (map timed chunk.samples) = follow_room file.scale file.last chunk.samples s.timed a.follow in
+    let behind_rows : AllHaveRoom (last_in_rows rows) (map timed chunk.samples) =
+    subst (λ (t : Option ℕ). AllHaveRoom t (map timed chunk.samples)) s.behind more in
     let room : AllHaveRoom None (timed_of (with_chunk rows file.end chunk)) =
-    subst (λ (ss : List Timed). AllHaveRoom None ss) (sym (timed_of-append rows file.end chunk)) (room_append None (timed_of rows) (map timed_as chunk.samples) s.room behind_rows) in
+    subst (λ (ss : List Timed). AllHaveRoom None ss) (sym (timed_of-append rows file.end chunk)) (room_append None (timed_of rows) (map timed chunk.samples) s.room behind_rows) in
     let behind : last_ticks (last_from file.last chunk.samples) ≡ last_in_rows (with_chunk rows file.end chunk) =
     follow_last file.last chunk.samples
-    ∙ ap (λ (t : Option ℕ). last_tick t (decodes (map timed_as chunk.samples))) s.behind
-    ∙ sym (last_append None (ticks_of rows) (decodes (map timed_as chunk.samples)))
+    ∙ ap (λ (t : Option ℕ). last_tick t (decodes (map timed chunk.samples))) s.behind
+    ∙ sym (last_append None (ticks_of rows) (decodes (map timed chunk.samples)))
     ∙ sym (ap (λ (ts : List ℕ). last_tick None ts) (ticks_of-append rows file.end chunk)) in
-    let timed : IfSome (last_from file.last chunk.samples) (λ l. IsTimed file.scale l) = follow_timed file.scale file.last chunk.samples s.timed a.follow in
+    let last_timed : IfSome (last_from file.last chunk.samples) (λ l. IsTimed file.scale l) = follow_timed file.scale file.last chunk.samples s.timed a.follow in
     let each = follow_short file.scale file.last chunk.samples a.follow in
     record {
       addable = record { some = a.some; room = behind_rows; few = a.few };
       room = room;
       behind = behind;
-      timed = timed;
-      count = ap length (timed_of-append rows file.end chunk) ∙ length-append (timed_of rows) (map timed_as chunk.samples)
-          ∙ ap (λ (n : ℕ). length (timed_of rows) + n) (length-map chunk.samples timed_as);
-      short = rows_short file.scale (last_from file.last chunk.samples) (with_chunk rows file.end chunk) s.ticks room behind timed;
+      timed = last_timed;
+      count = ap length (timed_of-append rows file.end chunk) ∙ length-append (timed_of rows) (map timed chunk.samples)
+          ∙ ap (λ (n : ℕ). length (timed_of rows) + n) (length-map chunk.samples timed);
+      short = rows_short file.scale (last_from file.last chunk.samples) (with_chunk rows file.end chunk) s.ticks room behind last_timed;
       bytes = short_sum chunk.samples each;
       each = each;
     }

@@ -4,9 +4,9 @@ use Rattle.std.specs.List.{AllByRecursion}
 use Rattle.sf_tick.specs.declared.types.Stored.{Stored}
 use Rattle.sf_tick.specs.declared.types.Chunk.{Chunk}
 use Rattle.sf_meaning.specs.Entry.{aac_entry}
-use Rattle.sf_meaning.specs.Layout.{samples_of, rows_of, first_dts}
+use Rattle.sf_meaning.specs.Layout.{samples_of}
 use Rattle.sf_gather.specs.Proper.{AllFollow}
-use Rattle.sf_file.specs.Movie.{movie_box}
+use Rattle.sf_file.specs.Movie.{movie_box_of}
 
 -- a sample that is decoded in the first 2 ^ 30 microseconds
 abbrev pub IsEarly : Stored → Type 0
@@ -24,4 +24,4 @@ pub record Holdable (scale : ℕ) (chunks : List Chunk) : Type 0 where
   pub follow : AllFollow scale None (samples_of chunks)
   pub early : AllByRecursion IsEarly (samples_of chunks)
   pub few : length (samples_of chunks) ≤ 16777216
-  pub box : length (movie_box scale aac_entry (first_dts (samples_of chunks)) (rows_of chunks)) ≤ 2 ^ 28
+  pub box : length (movie_box_of scale aac_entry chunks) ≤ 2 ^ 28

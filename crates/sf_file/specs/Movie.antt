@@ -3,7 +3,8 @@ use Rattle.std.specs.Prelude.{ℕ, ◌*◌, ◌/◌, List, ◌++◌, codes}
 use Rattle.sf_box.specs.Boxes.{box_of, be32, be64}
 use Rattle.sf_box.specs.Parts.{Part, tiled}
 use Rattle.sf_meaning.specs.Stbl.{Row, duration_in_rows, stbl_parts}
-use Rattle.sf_meaning.specs.Layout.{ftyp_body, in_minf, in_mdia, in_trak, in_moov}
+use Rattle.sf_tick.specs.declared.types.Chunk.{Chunk}
+use Rattle.sf_meaning.specs.Layout.{samples_of, rows_of, first_dts, ftyp_body, in_minf, in_mdia, in_trak, in_moov}
 
 -- the sample table box
 unfoldable pub stbl_box : List ℕ → List Row → List ℕ
@@ -30,6 +31,10 @@ moov_with scale duration start_us stbl = in_moov start_us (microseconds scale du
 unfoldable pub movie_box : ℕ → List ℕ → ℕ → List Row → List ℕ
 movie_box scale entry start_us rows =
     box_of (codes "moov") (tiled (moov_with scale (duration_in_rows rows) start_us (stbl_parts entry rows)))
+
+-- the movie box of the file of these chunks
+abbrev pub movie_box_of : ℕ → List ℕ → List Chunk → List ℕ
+movie_box_of scale entry chunks = movie_box scale entry (first_dts (samples_of chunks)) (rows_of chunks)
 
 -- the file type box, and the head of a media data box of so many bytes (4.3, 8.1.1)
 unfoldable pub file_head : ℕ → List ℕ

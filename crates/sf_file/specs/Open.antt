@@ -2,14 +2,15 @@
 use Rattle.std.specs.Prelude.{◌≡◌, ℕ, ◌+◌, ◌*◌, ◌^◌, ◌<◌, ◌≤◌, ◌⊎◌, List, [], ◌++◌, length, take, Option, Some, None, IfSome}
 use Rattle.sf_tick.specs.Tick.{tick}
 use Rattle.sf_tick.specs.declared.types.Chunk.{Chunk}
-use Rattle.sf_world.specs.Contents.{grown, Spoils}
+use Rattle.sf_world.specs.Contents.{GainsPart, grown, Spoils}
 use Rattle.sf_meaning.specs.Stbl.{timed_of}
-use Rattle.sf_meaning.specs.Layout.{samples_of, stored_bytes, rows_of}
+use Rattle.sf_meaning.specs.Layout.{layout, samples_of, stored_bytes, rows_of}
 use Rattle.sf_gather.specs.declared.given.LastSample.{LastSample}
 use Rattle.sf_gather.specs.Accepting.{last_of}
 use Rattle.sf_gather.specs.Proper.{AllFollow}
 use Rattle.sf_tables.specs.Rows.{TrackTables, AllHaveRoom, first_dts_with, last_in_rows, with_chunk}
-use Rattle.sf_file.specs.Movie.{file_head, movie_box}
+use Rattle.sf_file.specs.Movie.{file_head, movie_box, movie_box_of}
+use Rattle.sf_file.specs.declared.out_file.Closing.{Closing}
 
 -- A file that is being written: the ticks a second of its track, the sample entry, what its tables hold, the last sample, where the next chunk begins, and its sink.
 pub record OpenFile (S : Type 0) : Type 0 where
@@ -46,6 +47,12 @@ pub record Stands {S : Type 0} (contents : S → Option (List ℕ)) (begun : Opt
   pub end : file.end ≡ 40 + length (stored_bytes (samples_of chunks))
   pub told : contents file.sink ≡ grown begun (opened chunks)
 
+-- What the file of these chunks is once it is closed: how many bytes it has, how many of them its movie box, and how many samples it holds.
+pub record ClosesAs (scale : ℕ) (entry : List ℕ) (chunks : List Chunk) (closing : Closing) : Type 0 where
+  pub whole : closing.bytes ≡ length (layout scale entry chunks)
+  pub box : closing.movie_box ≡ length (movie_box_of scale entry chunks)
+  pub count : closing.samples ≡ length (samples_of chunks)
+
 -- a sink that tells its bytes tells that it is empty
 abbrev pub IsEmpty : Option (List ℕ) → Type 0
 IsEmpty None = Unit {0}
@@ -57,11 +64,14 @@ pub record Appendable {S : Type 0} (file : OpenFile S) (chunk : Chunk) : Type 0 
   pub follow : AllFollow file.scale file.last chunk.samples
   pub few : length (timed_of file.tables.rows) + length chunk.samples < 2 ^ 32
 
--- Some first part of the bytes was put at the end.
-pub record GainsPart (whole : List ℕ) (before after : Option (List ℕ)) : Type 0 where
-  pub count : ℕ
-  pub part : count ≤ length whole
-  pub contents : after ≡ grown before (take count whole)
+-- All of a file but its sink and the room in its tables is as it was.
+pub record Stays {S : Type 0} (before after : OpenFile S) : Type 0 where
+  pub scale : after.scale ≡ before.scale
+  pub entry : after.entry ≡ before.entry
+  pub rows : after.tables.rows ≡ before.tables.rows
+  pub first : after.tables.first_dts ≡ before.tables.first_dts
+  pub last : after.last ≡ before.last
+  pub end : after.end ≡ before.end
 
 -- what is left of a file whose closing failed: a part of the movie box lacks, or the size of the media data box is spoilt
 abbrev pub HalfClosed : List ℕ → Option (List ℕ) → Option (List ℕ) → Type 0

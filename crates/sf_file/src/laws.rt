@@ -5,12 +5,12 @@ ghost use Rattle.std.specs.Result.{IsOk};
 ghost use Rattle.std.specs.List.{AllByRecursion};
 ghost use Rattle.sf_tick.specs.declared.types.Chunk.{Chunk};
 ghost use Rattle.sf_meaning.specs.Joined.{joined};
-ghost use Rattle.sf_meaning.specs.Layout.{first_dts, held_as, layout, rows_of, samples_of};
+ghost use Rattle.sf_meaning.specs.Layout.{held_as, layout, samples_of};
 ghost use Rattle.sf_meaning.specs.Entry.{aac_entry};
 ghost use Rattle.sf_meaning.specs.Movie.{movie};
 ghost use Rattle.sf_gather.specs.Accepting.{last_of};
 ghost use Rattle.sf_gather.specs.Proper.{AllFollow};
-ghost use Rattle.sf_file.specs.Movie.{movie_box};
+ghost use Rattle.sf_file.specs.Movie.{movie_box_of};
 ghost use Rattle.sf_meaning.specs.Stbl.{timed_of};
 ghost use Rattle.sf_file.specs.Open.{Appendable, OpenFile, Stands, closing_box_with};
 ghost use Rattle.sf_file.specs.Holdable.{Holdable, IsEarly};
@@ -39,7 +39,7 @@ pub fn one_more_chunk()
     ensures { (scale : ℕ) (chunks : List Chunk) (chunk : Chunk) → Holdable scale chunks → 1 ≤ length chunk.samples
         → AllFollow scale (last_of (samples_of chunks)) chunk.samples → AllByRecursion IsEarly chunk.samples
         → length (samples_of (chunks ++ chunk ∷ [])) ≤ 16777216
-        → length (movie_box scale aac_entry (first_dts (samples_of (chunks ++ chunk ∷ []))) (rows_of (chunks ++ chunk ∷ []))) ≤ 2 ^ 28
+        → length (movie_box_of scale aac_entry (chunks ++ chunk ∷ [])) ≤ 2 ^ 28
         → Holdable scale (chunks ++ chunk ∷ []) }
 {}
 

@@ -1,14 +1,14 @@
 ghost use Rattle.std.specs.Prelude.{◌≡◌, ◌==◌, ℕ, ◌+◌, ◌*◌, ◌^◌, ◌≤◌, ◌<◌, List, [], ◌∷◌, ◌++◌, length, Option, Err, OnOk, OnErr, IfOk, IfErr, MatchResult};
 ghost use Rattle.sf_tick.specs.declared.types.Chunk.{Chunk};
-ghost use Rattle.sf_world.specs.Contents.{grown};
+ghost use Rattle.sf_world.specs.Contents.{GainsPart, grown};
 ghost use Rattle.sf_world.specs.Counts.{Rose};
 ghost use Rattle.sf_meaning.specs.Stbl.{timed_of};
-ghost use Rattle.sf_meaning.specs.Layout.{layout, stored_bytes};
+ghost use Rattle.sf_meaning.specs.Layout.{layout, samples_of, stored_bytes};
 ghost use Rattle.sf_gather.specs.Accepting.{last_from};
 ghost use Rattle.sf_meaning.specs.Stbl.{duration_in_rows};
 ghost use Rattle.sf_tables.specs.Rows.{with_chunk};
 ghost use Rattle.sf_file.specs.Movie.{file_head, microseconds, stbl_box};
-ghost use Rattle.sf_file.specs.Open.{Appendable, GainsPart, HalfClosed, IsEmpty, Stands, closing_box, closing_box_with, start_of};
+ghost use Rattle.sf_file.specs.Open.{Appendable, ClosesAs, HalfClosed, IsEmpty, Stands, Stays, closing_box, closing_box_with, start_of};
 
 use crate::containers::{TrackHead, moov_len, put_moov};
 use crate::faults::FileFault;
@@ -94,6 +94,7 @@ impl<S: Sink> OutFile<S> {
         ensures scale { IfOk result (λ f. f.scale ≡ scale) }
         ensures entry { IfOk result (λ f. f.entry ≡ entry) }
         ensures part { IfErr result (λ e. GainsPart (file_head 16) (S.contents sink) (S.contents e.0)) }
+        ensures no_memory { IfErr result (λ e. e.1 ≡ FileFault.NoMemory → S.contents e.0 ≡ S.contents sink) }
         ensures later { MatchResult result (λ f. S.faults sink ≤ S.faults f.sink) (λ e. S.faults sink ≤ S.faults e.0) }
         ensures failed { IfErr result (λ e. e.1 ≡ FileFault.WriteFault → Rose (S.faults sink) (S.faults e.0)) }
     {
@@ -132,7 +133,7 @@ impl<S: Sink> OutFile<S> {
         ensures bytes { result.bytes ≡ self.now.end + length (stored_bytes chunk.now.samples) + length (closing_box_with self.now chunk.now) }
         ensures samples { result.samples ≡ length (timed_of self.now.tables.rows) + length chunk.now.samples }
         ensures whole { (begun : Option (List ℕ)) (chunks : List Chunk) → Stands S.contents begun chunks self.now
-            → result.bytes ≡ length (layout self.now.scale self.now.entry (chunks ++ chunk.now ∷ [])) }
+            → ClosesAs self.now.scale self.now.entry (chunks ++ chunk.now ∷ []) result }
     {
         let (stbl, duration) = self.lengths_with(chunk);
         let movie_box = moov_len(self.scale, duration, stbl);
@@ -154,7 +155,8 @@ impl<S: Sink> OutFile<S> {
     }
 
     /// Writes a chunk behind the others. Its own memory is taken before the sink is called. After an
-    /// error only `give_sink` is called.
+    /// error the file holds what it held. Where the sink failed it may have gained a first part of the
+    /// chunk, and only `give_sink` is called then.
     pub fn append(&mut self, chunk: &Chunk) -> Result<(), FileFault>
         requires appendable { Appendable self.old chunk.now }
         requires movie_box { length (closing_box_with self.old chunk.now) ≤ 2 ^ 28 }
@@ -164,7 +166,9 @@ impl<S: Sink> OutFile<S> {
         ensures rows { OnOk result (self.new.tables.rows ≡ with_chunk self.old.tables.rows self.old.end chunk.now) }
         ensures scale { self.new.scale ≡ self.old.scale }
         ensures entry { self.new.entry ≡ self.old.entry }
+        ensures stays { OnErr result (Stays self.old self.new) }
         ensures part { OnErr result (GainsPart (stored_bytes chunk.now.samples) (S.contents self.old.sink) (S.contents self.new.sink)) }
+        ensures no_memory { result ≡ Err FileFault.NoMemory → S.contents self.new.sink ≡ S.contents self.old.sink }
         ensures later { S.faults self.old.sink ≤ S.faults self.new.sink }
         ensures failed { result ≡ Err FileFault.WriteFault → Rose (S.faults self.old.sink) (S.faults self.new.sink) }
     {
@@ -203,6 +207,7 @@ impl<S: Sink> OutFile<S> {
         ensures closed { IfOk result (λ s. (begun : Option (List ℕ)) (chunks : List Chunk) → IsEmpty begun → Stands S.contents begun chunks self
             → S.contents s ≡ grown begun (layout self.scale self.entry chunks)) }
         ensures part { IfErr result (λ e. HalfClosed (closing_box self) (S.contents self.sink) (S.contents e.0)) }
+        ensures no_memory { IfErr result (λ e. e.1 ≡ FileFault.NoMemory → S.contents e.0 ≡ S.contents self.sink) }
         ensures later { MatchResult result (λ s. S.faults self.sink ≤ S.faults s) (λ e. S.faults self.sink ≤ S.faults e.0) }
         ensures failed { IfErr result (λ e. e.1 ≡ FileFault.WriteFault → Rose (S.faults self.sink) (S.faults e.0)) }
     {
@@ -226,6 +231,15 @@ impl<S: Sink> OutFile<S> {
         ensures { result ≡ start_of self.now.tables.first_dts }
     {
         self.tables.first_dts().unwrap_or(0)
+    }
+
+    /// How many samples the file holds.
+    pub fn samples(&self) -> u64
+        ensures samples { result ≡ length (timed_of self.now.tables.rows) }
+        ensures whole { (begun : Option (List ℕ)) (chunks : List Chunk) → Stands S.contents begun chunks self.now
+            → result ≡ length (samples_of chunks) }
+    {
+        self.tables.count()
     }
 
     /// Whether the file holds no samples.

@@ -2,11 +2,10 @@
 
 ghost use Rattle.std.specs.Prelude.{◌≡◌, ◌+◌, ◌*◌, ◌^◌, ◌≤◌, ◌<◌, length, Err, OnOk, OnErr, IfOk};
 ghost use Rattle.std.specs.List.{AllByRecursion};
-ghost use Rattle.sf_world.specs.Contents.{grown};
+ghost use Rattle.sf_world.specs.Contents.{GainsPart, grown};
 ghost use Rattle.sf_world.specs.Counts.{Rose};
 ghost use Rattle.sf_meaning.specs.Layout.{stored_bytes};
 ghost use Rattle.sf_file.specs.Movie.{file_head};
-ghost use Rattle.sf_file.specs.Open.{GainsPart};
 
 use crate::faults::FileFault;
 use sf_list::Bytes;
@@ -31,6 +30,7 @@ pub(crate) fn file_head() -> [u8; 40]
 pub(crate) fn put<S: Sink>(sink: &mut S, bytes: &[u8]) -> Result<(), FileFault>
     ensures ok { OnOk result (S.contents sink.new ≡ grown (S.contents sink.old) bytes.now) }
     ensures part { OnErr result (GainsPart bytes.now (S.contents sink.old) (S.contents sink.new)) }
+    ensures no_memory { result ≡ Err FileFault.NoMemory → S.contents sink.new ≡ S.contents sink.old }
     ensures size { OnOk result (S.size sink.new ≡ S.size sink.old + length bytes.now) }
     ensures longer { S.size sink.old ≤ S.size sink.new }
     ensures later { S.faults sink.old ≤ S.faults sink.new }

@@ -1,4 +1,5 @@
 ghost use Rattle.std.specs.Prelude.{◌≡◌, ◌+◌, ◌^◌, ◌<◌, ◌≤◌, length, IsTrue, IfSome, Option};
+ghost use Rattle.sf_gather.specs.Accepting.{is_offset};
 ghost use Rattle.sf_gather.specs.Proper.{AllFollow, Follows};
 ghost use Rattle.sf_file.specs.Open.{Appendable};
 
@@ -12,6 +13,7 @@ use std::test::Fail;
 
 mod bytes;
 mod failures;
+mod read_back;
 mod sizes;
 
 /// The sample entry box of AAC at 48000 Hz with two channels: 87 bytes (ISO/IEC 14496-12, 12.2.3;
@@ -57,13 +59,18 @@ fn chunk(alloc: Global, times: &[Times]) -> Result<Chunk, AllocError> {
             bytes: Bytes::from_slice(alloc, &SAMPLE)?,
         })?;
     }
-    Ok(Chunk {
+    Ok(chunk_of(samples))
+}
+
+/// A chunk of these samples.
+fn chunk_of(samples: Samples) -> Chunk {
+    Chunk {
         track: 0,
         number: 0,
         first_us: 0,
         samples,
         last: false,
-    })
+    }
 }
 
 /// Whether a sample is behind the last one, and near enough.
@@ -79,7 +86,14 @@ fn is_behind(last: Option<LastSample>, sample: &Stored) -> bool
     }
 }
 
-/// Whether a sample can stand behind the last one. Its composition tick is that of its decoding.
+/// Whether a composition offset is a signed number of 32 bits.
+fn is_offset(decode: u64, compose: u64) -> bool
+    ensures { result ≡ is_offset decode compose }
+{
+    compose.saturating_sub(decode) < 1 << 31 && decode.saturating_sub(compose) <= 1 << 31
+}
+
+/// Whether a sample can stand behind the last one.
 fn follows(scale: u32, last: Option<LastSample>, sample: &Stored) -> bool
     requires { 1 ≤ scale }
     ensures { IsTrue result → Follows scale last sample.now }
@@ -87,7 +101,7 @@ fn follows(scale: u32, last: Option<LastSample>, sample: &Stored) -> bool
     sample.dts_us <= 1 << 48
         && is_behind(last, sample)
         && sample.decode == to_tick(sample.dts_us, scale)
-        && sample.compose == sample.decode
+        && is_offset(sample.decode, sample.compose)
         && sample.compose <= to_tick(1 << 48, scale)
         && !sample.bytes.is_empty()
         && sample.bytes.len() <= 1 << 25
@@ -133,6 +147,18 @@ fn append<S: Sink>(file: &mut OutFile<S>, chunk: &Chunk) -> Result<Closing, Stop
     match file.append(chunk) {
         Ok(()) => Ok(told),
         Err(fault) => Err(Stop::Fault(fault)),
+    }
+}
+
+/// A file of no chunk on the shelf, at 48000 ticks a second.
+fn begun(alloc: Global, shelf: &mut MemShelf) -> Result<OutFile<MemSink>, Stop> {
+    let entry = Bytes::from_slice(alloc, &ENTRY)?;
+    let Ok(sink) = shelf.create("file") else {
+        return Err(Stop::Unfit);
+    };
+    match OutFile::begin(alloc, sink, 48_000, entry) {
+        Ok(file) => Ok(file),
+        Err((_, fault)) => Err(Stop::Fault(fault)),
     }
 }
 

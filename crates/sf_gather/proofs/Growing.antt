@@ -1,11 +1,11 @@
--- What one more sample at the end of a list does to its chunks: it grows the last one or closes it.
-use Rattle.std.proofs.Common.{◌≡◌, ℕ, ◌+◌, ◌-◌, Bool, true, false, cond, List, [], ◌∷◌, ◌++◌, length, refl, ap, ◌∙◌, arith}
+-- What more samples at the end of a list do to its chunks: one more grows the last one or closes it, and the others stay.
+use Rattle.std.proofs.Common.{◌≡◌, ℕ, ◌+◌, ◌-◌, Bool, true, false, cond, List, [], ◌∷◌, ◌++◌, length, refl, sym, ap, ◌∙◌, arith}
 use Rattle.std.proofs.lemmas.List.{length-append}
 use Rattle.std.proofs.Math.Seq.{take-append_seam}
 use Rattle.sf_tick.specs.declared.types.Stored.{Stored}
 use Rattle.sf_tick.specs.declared.types.Chunk.{Chunk}
 use Rattle.sf_gather.specs.declared.given.Given.{Given}
-use Rattle.sf_gather.specs.Chunks.{belongs, chunk_of, chunks_from, without_last, closed, marked}
+use Rattle.sf_gather.specs.Chunks.{belongs, chunk_of, chunks, chunks_from, without_last, closed, marked}
 
 -- the chunks but the last one
 abbrev pub closed_from : Given → ℕ → List Stored → List Stored → List Chunk
@@ -74,3 +74,19 @@ without_last_of cs c =
 -- the closed chunks are those but the last
 pub closed_is : (given : Given) (xs : List Stored) → closed given xs ≡ closed_from given 0 [] xs
 closed_is given xs = ap without_last (chunks_split given 0 [] xs) ∙ without_last_of _ _
+
+stays_if : (b : Bool) (h : Chunk) (a c e g : List Chunk) → (rest : List Chunk) × (a ≡ c ++ rest) → (rest : List Chunk) × (e ≡ g ++ rest)
+    → (rest : List Chunk) × (cond b a (h ∷ e) ≡ cond b c (h ∷ g) ++ rest)
+stays_if true h a c e g p q = p
+stays_if false h a c e g p q = (q.0, ap (λ (cs : List Chunk). h ∷ cs) q.1)
+
+closed_stays : (given : Given) (number : ℕ) (so_far xs more : List Stored) → (rest : List Chunk) × (chunks_from given number so_far (xs ++ more) ≡ closed_from given number so_far xs ++ rest)
+closed_stays given number so_far [] more = (chunks_from given number so_far more, refl)
+closed_stays given number so_far (x ∷ xs) more =
+    stays_if (belongs given so_far x) (chunk_of given number false so_far) _ _ _ _ (closed_stays given number (so_far ++ x ∷ []) xs more) (closed_stays given (number + 1) (x ∷ []) xs more)
+
+-- the closed chunks stay, whatever samples follow
+pub closed_first : (given : Given) (xs more : List Stored) → (rest : List Chunk) × (chunks given (xs ++ more) ≡ closed given xs ++ rest)
+closed_first given xs more =
+    let stays = closed_stays given 0 [] xs more in
+    (stays.0, stays.1 ∙ ap (λ (cs : List Chunk). cs ++ stays.0) (sym (closed_is given xs)))

@@ -32,6 +32,11 @@ pub fn one_more_sample(given: Given)
         ≡ closed given samples ++ chunk_of given last.number false last.samples ∷ chunk_of given (last.number + 1) true (next ∷ []) ∷ [] }
 {}
 
+/// A law: the closed chunks of a list stay the first ones, whatever samples follow.
+pub fn closed_chunks_stay(given: Given)
+    ensures { (samples more : List Stored) → (rest : List Chunk) × (chunks given (samples ++ more) ≡ closed given samples ++ rest) }
+{}
+
 /// A law: the samples in front of the first one that is refused are accepted one after the other,
 /// and where one more is accepted behind them all, it is one of theirs.
 pub fn accepted_samples(given: Given)

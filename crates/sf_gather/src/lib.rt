@@ -13,7 +13,10 @@ mod laws;
 pub use accepting::SampleFault;
 pub use gather::Gather;
 pub use given::{Given, LastSample, Options};
-pub use laws::{accepted_samples, longest_front, one_more_sample, proper_by_tail, proper_chunks};
+pub use laws::{
+    accepted_samples, closed_chunks_stay, longest_front, one_more_sample, proper_by_tail,
+    proper_chunks,
+};
 
 #[cfg(test)]
 mod tests;

@@ -11,7 +11,8 @@ use Rattle.sf_tables.specs.declared.kept.KeptChunk.{KeptChunk}
 use Rattle.sf_tables.specs.declared.totals.SampleTotals.{SampleTotals}
 use Rattle.sf_tables.specs.declared.totals.ChunkTotals.{ChunkTotals}
 use Rattle.sf_tables.specs.Kept.{OffsetFits, timed_kept, rows_kept, counts_kept, places_kept, stbl_from}
-use Rattle.sf_tables.specs.Rows.{Addable, AllHaveRoom, timed_as, row_at, with_chunk, last_tick, last_in_rows}
+use Rattle.sf_meaning.specs.Layout.{timed, row_at}
+use Rattle.sf_tables.specs.Rows.{Addable, AllHaveRoom, with_chunk, last_tick, last_in_rows}
 use Rattle.sf_tables.specs.Totals.{CountsSamples, CountsChunks, Steady, after_chunk, after_samples, last_counted, last_or}
 use Rattle.sf_tables.specs.Sound.{Sound}
 use Rattle.sf_tables.proofs.Backs.{sum-more, some_of}
@@ -85,40 +86,40 @@ pub offsets_fit : (last : Option ℕ) (ss : List Timed) → AllHaveRoom last ss 
 offsets_fit last [] a = tt
 offsets_fit last (s ∷ ss) a = (record { late = a.0.late; early = a.0.early }, offsets_fit (Some s.decode) ss a.1)
 
-pub sizes_fit : (last : Option ℕ) (ss : List Stored) → AllHaveRoom last (map timed_as ss) → AllByRecursion (λ (s : Stored). length s.bytes < 2 ^ 32) ss
+pub sizes_fit : (last : Option ℕ) (ss : List Stored) → AllHaveRoom last (map timed ss) → AllByRecursion (λ (s : Stored). length s.bytes < 2 ^ 32) ss
 sizes_fit last [] a = tt
 sizes_fit last (s ∷ ss) a = (a.0.size, sizes_fit (Some s.decode) ss a.1)
 
 -- the samples and chunks of one more chunk
-pub timed_with : (rows : List Row) (place : ℕ) (chunk : Chunk) → timed_of (with_chunk rows place chunk) ≡ timed_of rows ++ map timed_as chunk.samples
-timed_with [] place chunk = append-nil (map timed_as chunk.samples)
-timed_with (r ∷ rows) place chunk = ap (λ (xs : List Timed). r.samples ++ xs) (timed_with rows place chunk) ∙ sym (append_assoc r.samples (timed_of rows) (map timed_as chunk.samples))
+pub timed_with : (rows : List Row) (place : ℕ) (chunk : Chunk) → timed_of (with_chunk rows place chunk) ≡ timed_of rows ++ map timed chunk.samples
+timed_with [] place chunk = append-nil (map timed chunk.samples)
+timed_with (r ∷ rows) place chunk = ap (λ (xs : List Timed). r.samples ++ xs) (timed_with rows place chunk) ∙ sym (append_assoc r.samples (timed_of rows) (map timed chunk.samples))
 
 pub counted_with : (t : SampleTotals) (rows : List Row) (place : ℕ) (chunk : Chunk) → CountsSamples t (timed_of rows)
-    → CountsSamples (after_samples t (map timed_as chunk.samples)) (timed_of (with_chunk rows place chunk))
-counted_with t rows place chunk c = rw (timed_with rows place chunk) (counts_samples t (timed_of rows) (map timed_as chunk.samples) c)
+    → CountsSamples (after_samples t (map timed chunk.samples)) (timed_of (with_chunk rows place chunk))
+counted_with t rows place chunk c = rw (timed_with rows place chunk) (counts_samples t (timed_of rows) (map timed chunk.samples) c)
 
 pub chunks_counted_with : (k : ChunkTotals) (rows : List Row) (place : ℕ) (chunk : Chunk) → CountsChunks k (places_in_rows rows) (counts_in_rows rows)
     → CountsChunks (after_chunk k place (length chunk.samples)) (places_in_rows (with_chunk rows place chunk)) (counts_in_rows (with_chunk rows place chunk))
 chunks_counted_with k rows place chunk c =
     let places : places_in_rows (with_chunk rows place chunk) ≡ places_in_rows rows ++ place ∷ [] = map-append (λ (r : Row). r.place) rows (row_at place chunk ∷ []) in
-    let counts : counts_in_rows (with_chunk rows place chunk) ≡ counts_in_rows rows ++ length (map timed_as chunk.samples) ∷ [] = map-append (λ (r : Row). length r.samples) rows (row_at place chunk ∷ []) in
-    rw (places, counts, length-map chunk.samples timed_as) (counts_chunk k (places_in_rows rows) (counts_in_rows rows) place (length chunk.samples) c)
+    let counts : counts_in_rows (with_chunk rows place chunk) ≡ counts_in_rows rows ++ length (map timed chunk.samples) ∷ [] = map-append (λ (r : Row). length r.samples) rows (row_at place chunk ∷ []) in
+    rw (places, counts, length-map chunk.samples timed) (counts_chunk k (places_in_rows rows) (counts_in_rows rows) place (length chunk.samples) c)
 
 -- the tables stay sound with one more chunk
 pub sound_with : (t : SampleTotals) (k : ChunkTotals) (ss new : List KeptSample) (cs : List KeptChunk) (c : KeptChunk) (chunk : Chunk) → Sound t k ss cs
-    → Addable (rows_kept cs (map timed_kept ss)) chunk → map timed_kept new ≡ map timed_kept ss ++ map timed_as chunk.samples → c.count ≡ length chunk.samples
-    → Steady (after_samples t (map timed_as chunk.samples)) → (after_chunk k c.place c.count).spreads ≤ (after_chunk k c.place c.count).chunks
-    → Sound (after_samples t (map timed_as chunk.samples)) (after_chunk k c.place c.count) new (cs ++ c ∷ [])
+    → Addable (rows_kept cs (map timed_kept ss)) chunk → map timed_kept new ≡ map timed_kept ss ++ map timed chunk.samples → c.count ≡ length chunk.samples
+    → Steady (after_samples t (map timed chunk.samples)) → (after_chunk k c.place c.count).spreads ≤ (after_chunk k c.place c.count).chunks
+    → Sound (after_samples t (map timed chunk.samples)) (after_chunk k c.place c.count) new (cs ++ c ∷ [])
 sound_with t k ss new cs c chunk s a e n steady spreads =
-    let more : List Timed = map timed_as chunk.samples in
+    let more : List Timed = map timed chunk.samples in
     let whole : sum (counts_kept cs) ≡ length (map timed_kept ss) = s.whole ∙ sym (length-map ss timed_kept) in
-    let timed : timed_of (rows_kept cs (map timed_kept ss)) ≡ map timed_kept ss = timed_back cs (map timed_kept ss) whole in
+    let back : timed_of (rows_kept cs (map timed_kept ss)) ≡ map timed_kept ss = timed_back cs (map timed_kept ss) whole in
     let places : places_kept (cs ++ c ∷ []) ≡ places_kept cs ++ c.place ∷ [] = map-append (λ (x : KeptChunk). x.place) cs (c ∷ []) in
     let counts : counts_kept (cs ++ c ∷ []) ≡ counts_kept cs ++ c.count ∷ [] = map-append (λ (x : KeptChunk). x.count) cs (c ∷ []) in
     let total : length new ≡ length ss + length chunk.samples =
-    sym (length-map new timed_kept) ∙ ap (λ (xs : List Timed). length xs) e ∙ omega (arith, length-append (map timed_kept ss) more, length-map ss timed_kept, length-map chunk.samples timed_as) in
-    let before : length (timed_of (rows_kept cs (map timed_kept ss))) ≡ length ss = ap (λ (xs : List Timed). length xs) timed ∙ length-map ss timed_kept in
+    sym (length-map new timed_kept) ∙ ap (λ (xs : List Timed). length xs) e ∙ omega (arith, length-append (map timed_kept ss) more, length-map ss timed_kept, length-map chunk.samples timed) in
+    let before : length (timed_of (rows_kept cs (map timed_kept ss))) ≡ length ss = ap (λ (xs : List Timed). length xs) back ∙ length-map ss timed_kept in
     record {
       of_samples = rw e (counts_samples t (map timed_kept ss) more s.of_samples);
       of_chunks = rw (places, counts) (counts_chunk k (places_kept cs) (counts_kept cs) c.place c.count s.of_chunks);
@@ -127,16 +128,16 @@ sound_with t k ss new cs c chunk s a e n steady spreads =
       whole = rw (counts, sum-more (counts_kept cs) c.count, total, s.whole, n) refl;
       some = omega (arith, length-append cs (c ∷ []), s.some, a.some, total);
       few = omega (arith, total, before, a.few);
-      room = rw e (room_more None (map timed_kept ss) more s.room (rw timed at a.room));
+      room = rw e (room_more None (map timed_kept ss) more s.room (rw back at a.room));
     }
 
 -- the rows with one more chunk
 pub rows_with : (ss new : List KeptSample) (cs : List KeptChunk) (c : KeptChunk) (chunk : Chunk) → sum (counts_kept cs) ≡ length ss
-    → map timed_kept new ≡ map timed_kept ss ++ map timed_as chunk.samples → c.count ≡ length chunk.samples
+    → map timed_kept new ≡ map timed_kept ss ++ map timed chunk.samples → c.count ≡ length chunk.samples
     → rows_kept (cs ++ c ∷ []) (map timed_kept new) ≡ with_chunk (rows_kept cs (map timed_kept ss)) c.place chunk
 rows_with ss new cs c chunk whole e n =
     let same : sum (counts_kept cs) ≡ length (map timed_kept ss) = whole ∙ sym (length-map ss timed_kept) in
-    rw e (rows_more cs (map timed_kept ss) (map timed_as chunk.samples) c same (n ∙ sym (length-map chunk.samples timed_as)))
+    rw e (rows_more cs (map timed_kept ss) (map timed chunk.samples) c same (n ∙ sym (length-map chunk.samples timed)))
 
 pub count_back : (t : SampleTotals) (k : ChunkTotals) (ss : List KeptSample) (cs : List KeptChunk) → Sound t k ss cs → length (timed_of (rows_kept cs (map timed_kept ss))) ≡ length ss
 count_back t k ss cs s =
@@ -165,11 +166,11 @@ last_append before (x ∷ xs) ys = last_append (Some x) xs ys
 pub count_with : (rows : List Row) (place : ℕ) (chunk : Chunk) → length (timed_of (with_chunk rows place chunk)) ≡ length (timed_of rows) + length chunk.samples
 count_with rows place chunk =
     ap (λ (xs : List Timed). length xs) (timed_with rows place chunk)
-    ∙ omega (arith, length-append (timed_of rows) (map timed_as chunk.samples), length-map chunk.samples timed_as)
+    ∙ omega (arith, length-append (timed_of rows) (map timed chunk.samples), length-map chunk.samples timed)
 
 pub last_with : (rows : List Row) (place : ℕ) (chunk : Chunk)
-    → last_in_rows (with_chunk rows place chunk) ≡ last_tick (last_in_rows rows) (map (λ (s : Timed). s.decode) (map timed_as chunk.samples))
+    → last_in_rows (with_chunk rows place chunk) ≡ last_tick (last_in_rows rows) (map (λ (s : Timed). s.decode) (map timed chunk.samples))
 last_with rows place chunk =
     ap (λ (xs : List Timed). last_tick None (map (λ (s : Timed). s.decode) xs)) (timed_with rows place chunk)
-    ∙ ap (last_tick None) (map-append (λ (s : Timed). s.decode) (timed_of rows) (map timed_as chunk.samples))
-    ∙ last_append None (ticks_of rows) (map (λ (s : Timed). s.decode) (map timed_as chunk.samples))
+    ∙ ap (last_tick None) (map-append (λ (s : Timed). s.decode) (timed_of rows) (map timed chunk.samples))
+    ∙ last_append None (ticks_of rows) (map (λ (s : Timed). s.decode) (map timed chunk.samples))

@@ -3,14 +3,7 @@ use Rattle.std.specs.Prelude.{ℕ, ◌+◌, ◌^◌, ◌<◌, ◌≤◌, List, [
 use Rattle.sf_tick.specs.declared.types.Stored.{Stored}
 use Rattle.sf_tick.specs.declared.types.Chunk.{Chunk}
 use Rattle.sf_meaning.specs.Stbl.{Timed, Row, timed_of, ticks_of}
-
--- what the tables say of a stored sample
-abbrev pub timed_as : Stored → Timed
-timed_as s = record { decode = s.decode; compose = s.compose; sync = s.sync; size = length s.bytes }
-
--- a chunk that begins at this place of a file
-abbrev pub row_at : ℕ → Chunk → Row
-row_at place chunk = record { place = place; samples = map timed_as chunk.samples }
+use Rattle.sf_meaning.specs.Layout.{row_at, timed}
 
 -- the rows with one more chunk at the end
 abbrev pub with_chunk : List Row → ℕ → Chunk → List Row
@@ -41,7 +34,7 @@ AllHaveRoom last (s ∷ ss) = HasRoom last s × AllHaveRoom (Some s.decode) ss
 -- A chunk can be added to the rows: it isn't empty, its samples have room, and fewer than 2 ^ 32 samples are there in all. It depends on the rows by their last tick and the number of their samples.
 pub record Addable (rows : List Row) (chunk : Chunk) : Type 0 where
   pub some : 1 ≤ length chunk.samples
-  pub room : AllHaveRoom (last_in_rows rows) (map timed_as chunk.samples)
+  pub room : AllHaveRoom (last_in_rows rows) (map timed chunk.samples)
   pub few : length (timed_of rows) + length chunk.samples < 2 ^ 32
 
 -- when the first of samples is decoded, in microseconds, behind an earlier first one
@@ -50,8 +43,9 @@ first_dts_with None [] = None
 first_dts_with None (s ∷ ss) = Some s.dts_us
 first_dts_with (Some us) ss = Some us
 
--- What the tables of a track are to those who use them: their rows, when the first added sample is decoded in microseconds, and for how many samples of one further chunk there is room.
+-- What the tables of a track are to those who use them: their rows, when the first added sample is decoded in microseconds, and for how many further samples and chunks there is room.
 pub record TrackTables : Type 0 where
   pub rows : List Row
   pub first_dts : Option ℕ
   pub spare : ℕ
+  pub spare_chunks : ℕ

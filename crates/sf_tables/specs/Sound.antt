@@ -1,5 +1,5 @@
 -- What holds of the parts of tables at every moment.
-use Rattle.std.specs.Prelude.{◌≡◌, ℕ, ◌-◌, ◌^◌, ◌≤◌, ◌<◌, nat_lt, List, length, map, sum, None, if◌then◌else◌, vec_len, vec_capacity}
+use Rattle.std.specs.Prelude.{◌≡◌, ℕ, ◌-◌, ◌^◌, ◌≤◌, ◌<◌, List, length, map, sum, None, vec_len, vec_capacity}
 use Rattle.std.specs.Global.{Vec}
 use Rattle.sf_tables.specs.declared.kept.KeptSample.{KeptSample}
 use Rattle.sf_tables.specs.declared.kept.KeptChunk.{KeptChunk}
@@ -9,9 +9,9 @@ use Rattle.sf_tables.specs.Kept.{timed_kept, counts_kept, places_kept}
 use Rattle.sf_tables.specs.Rows.{AllHaveRoom}
 use Rattle.sf_tables.specs.Totals.{CountsSamples, CountsChunks, Steady}
 
--- for how many samples of one further chunk there is room
-abbrev pub spare_of : Vec KeptSample → Vec KeptChunk → ℕ
-spare_of samples chunks = if nat_lt (vec_len chunks) (vec_capacity chunks) then vec_capacity samples - vec_len samples else 0
+-- for how many further elements there is room
+abbrev pub spare_of : {A : Type 0} → Vec A → ℕ
+spare_of list = vec_capacity list - vec_len list
 
 -- The totals are those of the samples and chunks, none outgrows their numbers, each sample is in a chunk, and each has room behind the one before it.
 pub record Sound (s : SampleTotals) (c : ChunkTotals) (samples : List KeptSample) (chunks : List KeptChunk) : Type 0 where

@@ -1,7 +1,7 @@
 ghost use Rattle.std.specs.Prelude.{◌≡◌, ℕ, ◌+◌, ◌^◌, ◌<◌, ◌≤◌, ◌++◌, length, map, vec_len, vec_capacity};
 ghost use Rattle.std.specs.List.{AllByRecursion};
 ghost use Rattle.sf_tables.specs.Kept.{timed_kept};
-ghost use Rattle.sf_tables.specs.Rows.{timed_as};
+ghost use Rattle.sf_meaning.specs.Layout.{timed};
 
 use sf_tick::Stored;
 
@@ -30,7 +30,7 @@ pub(crate) struct KeptChunk {
 // What is kept of a stored sample.
 fn kept(sample: &Stored) -> KeptSample
     requires { length sample.now.bytes < 2 ^ 32 }
-    ensures { timed_kept result ≡ timed_as sample.now }
+    ensures { timed_kept result ≡ timed sample.now }
 {
     KeptSample {
         decode: sample.decode,
@@ -44,7 +44,9 @@ fn kept(sample: &Stored) -> KeptSample
 pub(crate) fn keep_samples(list: &mut Vec<KeptSample>, samples: &[Stored])
     requires room { vec_len list.old + length samples.now ≤ vec_capacity list.old }
     requires sizes { AllByRecursion (λ s. length s.bytes < 2 ^ 32) samples.now }
-    ensures { map timed_kept list.new.items ≡ map timed_kept list.old.items ++ map timed_as samples.now }
+    ensures kept { map timed_kept list.new.items ≡ map timed_kept list.old.items ++ map timed samples.now }
+    ensures len { vec_len list.new ≡ vec_len list.old + length samples.now }
+    ensures capacity { vec_capacity list.new ≡ vec_capacity list.old }
 {
     for sample in samples {
         list.push_reserved(kept(sample));

@@ -4,7 +4,8 @@ ghost use Rattle.std.specs.Prelude.{◌≡◌, ℕ, ◌+◌, ◌≤◌, List, le
 ghost use Rattle.sf_tick.specs.declared.types.Chunk.{Chunk};
 ghost use Rattle.sf_meaning.specs.Stbl.{Row, runs_of, timed_of};
 ghost use Rattle.sf_meaning.specs.Tables.{expand};
-ghost use Rattle.sf_tables.specs.Rows.{last_in_rows, last_tick, timed_as, with_chunk};
+ghost use Rattle.sf_meaning.specs.Layout.{timed};
+ghost use Rattle.sf_tables.specs.Rows.{last_in_rows, last_tick, with_chunk};
 
 /// A law: the runs of a list expand to it, and no runs that do are fewer.
 pub fn fewest_runs()
@@ -18,5 +19,5 @@ pub fn one_more_chunk()
     ensures count { (rows : List Row) (place : ℕ) (chunk : Chunk)
         → length (timed_of (with_chunk rows place chunk)) ≡ length (timed_of rows) + length chunk.samples }
     ensures last { (rows : List Row) (place : ℕ) (chunk : Chunk)
-        → last_in_rows (with_chunk rows place chunk) ≡ last_tick (last_in_rows rows) (map (λ s. s.decode) (map timed_as chunk.samples)) }
+        → last_in_rows (with_chunk rows place chunk) ≡ last_tick (last_in_rows rows) (map (λ s. s.decode) (map timed chunk.samples)) }
 {}

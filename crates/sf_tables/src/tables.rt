@@ -1,8 +1,8 @@
-ghost use Rattle.std.specs.Prelude.{◌≡◌, ℕ, ◌+◌, ◌^◌, ◌<◌, ◌≤◌, List, [], ◌∷◌, ◌++◌, codes, length, None, OnOk, OnErr};
+ghost use Rattle.std.specs.Prelude.{◌≡◌, ℕ, ◌+◌, ◌^◌, ◌<◌, ◌≤◌, ◌⊎◌, List, [], ◌∷◌, ◌++◌, codes, length, None, OnOk, OnErr};
 ghost use Rattle.sf_box.specs.Boxes.{box_of};
 ghost use Rattle.sf_box.specs.Parts.{tiled};
 ghost use Rattle.sf_meaning.specs.Stbl.{Row, timed_of, duration_in_rows, stbl_parts};
-ghost use Rattle.sf_tables.specs.Rows.{Addable, first_dts_with, row_at, with_chunk};
+ghost use Rattle.sf_tables.specs.Rows.{Addable, first_dts_with, with_chunk};
 
 use crate::encoding::put_stbl;
 use crate::kept::{KeptChunk, KeptSample, keep_samples};
@@ -33,7 +33,7 @@ impl Model for Tables {
     ghost use Rattle.sf_tables.specs.Kept.{rows_kept, timed_kept};
     ghost use Rattle.sf_tables.specs.Sound.{Sound, spare_of};
 
-    ghost view = { λ t. record { rows = rows_kept t.chunks.items (map timed_kept t.samples.items); first_dts = t.first_dts; spare = spare_of t.samples t.chunks } };
+    ghost view = { λ t. record { rows = rows_kept t.chunks.items (map timed_kept t.samples.items); first_dts = t.first_dts; spare = spare_of t.samples; spare_chunks = spare_of t.chunks } };
 
     ghost invariant = { λ t. Sound t.of_samples t.of_chunks t.samples.items t.chunks.items };
 }
@@ -53,9 +53,13 @@ impl Tables {
         }
     }
 
-    /// Makes room for a chunk. It fails where there is no memory, and then the tables stay as they are.
+    /// Makes room for a chunk. It fails only where there is no such room and no memory for it, and then the tables
+    /// stay as they are.
     pub fn reserve_chunk(&mut self, chunk: &Chunk) -> Result<(), AllocError>
-        ensures ok { OnOk result (length chunk.now.samples ≤ self.new.spare) }
+        ensures samples { OnOk result (length chunk.now.samples ≤ self.new.spare) }
+        ensures chunk { OnOk result (1 ≤ self.new.spare_chunks) }
+        ensures full { OnErr result ((self.old.spare < length chunk.now.samples) ⊎ (self.old.spare_chunks ≡ 0)) }
+        ensures more { (self.old.spare ≤ self.new.spare) × (self.old.spare_chunks ≤ self.new.spare_chunks) }
         ensures rows { self.new.rows ≡ self.old.rows }
         ensures first { self.new.first_dts ≡ self.old.first_dts }
     {
@@ -66,9 +70,12 @@ impl Tables {
     /// Adds a chunk that begins at this place, in bytes from the start of the file. It takes no memory.
     pub fn add_chunk(&mut self, place: u64, chunk: &Chunk)
         requires spare { length chunk.now.samples ≤ self.old.spare }
+        requires spare_chunk { 1 ≤ self.old.spare_chunks }
         requires addable { Addable self.old.rows chunk.now }
         ensures rows { self.new.rows ≡ with_chunk self.old.rows place chunk.now }
         ensures first { self.new.first_dts ≡ first_dts_with self.old.first_dts chunk.now.samples }
+        ensures spare { self.new.spare + length chunk.now.samples ≡ self.old.spare }
+        ensures spare_chunks { self.new.spare_chunks + 1 ≡ self.old.spare_chunks }
     {
         let samples = chunk.samples.as_slice();
         self.of_samples = self.of_samples.with_samples(samples);

@@ -1,5 +1,6 @@
 ghost use Rattle.std.specs.Prelude.{◌≡◌, ◌+◌, ◌^◌, ◌<◌, ◌≤◌, map, IsTrue, Option};
-ghost use Rattle.sf_tables.specs.Rows.{Addable, AllHaveRoom, HasRoom, last_in_rows, timed_as};
+ghost use Rattle.sf_meaning.specs.Layout.{timed};
+ghost use Rattle.sf_tables.specs.Rows.{Addable, AllHaveRoom, HasRoom, last_in_rows};
 
 use super::*;
 use sf_list::Bytes;
@@ -45,7 +46,7 @@ fn chunk(alloc: Global, given: &[Given]) -> Result<Chunk, AllocError> {
 
 /// Whether a sample has room in the tables.
 fn has_room(last: Option<u64>, sample: &Stored) -> bool
-    ensures { IsTrue result → HasRoom last (timed_as sample.now) }
+    ensures { IsTrue result → HasRoom last (timed sample.now) }
 {
     let behind = match last {
         Some(tick) => tick <= sample.decode && sample.decode - tick < 1 << 32,
@@ -59,7 +60,7 @@ fn has_room(last: Option<u64>, sample: &Stored) -> bool
 
 /// Whether all samples have room in the tables, one after the other.
 fn all_have_room(last: Option<u64>, samples: &[Stored]) -> bool
-    ensures { IsTrue result → AllHaveRoom last (map timed_as samples.now) }
+    ensures { IsTrue result → AllHaveRoom last (map timed samples.now) }
 {
     let [first, others @ ..] = samples else {
         return true;

@@ -3,7 +3,8 @@
 ghost use Rattle.std.specs.Prelude.{◌≡◌, ℕ, ◌+◌, ◌-◌, ◌%◌, ◌^◌, ◌<◌, ◌≤◌, ◌==◌, List, [], length, map, if◌then◌else◌};
 ghost use Rattle.sf_box.specs.Parts.{tiled};
 ghost use Rattle.sf_meaning.specs.Stbl.{Row, timed_of, places_in_rows, counts_in_rows, stbl_parts, offset_word};
-ghost use Rattle.sf_tables.specs.Rows.{AllHaveRoom, HasRoom, timed_as};
+ghost use Rattle.sf_meaning.specs.Layout.{timed};
+ghost use Rattle.sf_tables.specs.Rows.{AllHaveRoom, HasRoom};
 ghost use Rattle.sf_tables.specs.Totals.{CountsChunks, CountsSamples, Steady, after_chunk, after_sample, after_samples, last_counted};
 
 use sf_tick::Stored;
@@ -143,8 +144,8 @@ impl SampleTotals {
     fn with_sample(self, sample: &Stored) -> SampleTotals
         requires few { self.count + 1 < 2 ^ 32 }
         requires steady { Steady self }
-        requires room { HasRoom (last_counted self) (timed_as sample.now) }
-        ensures exact { result ≡ after_sample self (timed_as sample.now) }
+        requires room { HasRoom (last_counted self) (timed sample.now) }
+        ensures exact { result ≡ after_sample self (timed sample.now) }
         ensures steady { Steady result }
     {
         let delta = self.delta_to(sample.decode);
@@ -169,8 +170,8 @@ impl SampleTotals {
     pub fn with_samples(self, samples: &[Stored]) -> SampleTotals
         requires few { self.count + length samples.now < 2 ^ 32 }
         requires steady { Steady self }
-        requires room { AllHaveRoom (last_counted self) (map timed_as samples.now) }
-        ensures exact { result ≡ after_samples self (map timed_as samples.now) }
+        requires room { AllHaveRoom (last_counted self) (map timed samples.now) }
+        ensures exact { result ≡ after_samples self (map timed samples.now) }
         ensures steady { Steady result }
     {
         let mut totals = self;

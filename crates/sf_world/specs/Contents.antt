@@ -29,6 +29,12 @@ pub record GrowsByPart (before : Option (List ℕ)) (size_before : ℕ) (bytes :
   pub contents : after ≡ grown before (take count bytes)
   pub size : size_after ≡ size_before + count
 
+-- Some first part of the bytes was put at the end, of an object whose size isn't told.
+pub record GainsPart (whole : List ℕ) (before after : Option (List ℕ)) : Type 0 where
+  pub count : ℕ
+  pub part : count ≤ length whole
+  pub contents : after ≡ grown before (take count whole)
+
 -- Any bytes stand in the range now, and the rest stayed.
 pub record Spoils (before : Option (List ℕ)) (at size : ℕ) (after : Option (List ℕ)) : Type 0 where
   pub bytes : List ℕ

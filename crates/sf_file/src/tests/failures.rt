@@ -30,3 +30,18 @@ fn each_write_of_a_file_fails(rt: HostRuntime) -> Result<(), Fail> {
     }
     Ok(())
 }
+
+// The sink gets 40 bytes in front of the samples, then the first chunk. It fails at the second one.
+#[test]
+fn a_failed_chunk_leaves_what_the_file_holds(rt: HostRuntime) -> Result<(), Fail> {
+    let alloc = rt.alloc();
+    let mut shelf = MemShelf::new(alloc, Vec::new(alloc));
+    shelf.fail_on(1, 2)?;
+    let mut file = begun(alloc, &mut shelf)?;
+    append(&mut file, &chunk(alloc, &THREE)?)?;
+    let fault = Err(Stop::Fault(FileFault::WriteFault));
+    let later = chunk(alloc, &[(64_000, 3072)])?;
+    assert_eq!(rt; append(&mut file, &later), fault);
+    assert_eq!(rt; (file.size(), file.samples(), file.start_us()), (640, 3, 0));
+    Ok(())
+}

@@ -2,22 +2,10 @@
 
 use super::*;
 
-/// A file of no chunk, at 48000 ticks a second.
-fn begun(alloc: Global) -> Result<OutFile<MemSink>, Stop> {
-    let entry = Bytes::from_slice(alloc, &ENTRY)?;
-    let mut shelf = MemShelf::new(alloc, Vec::new(alloc));
-    let Ok(sink) = shelf.create("file") else {
-        return Err(Stop::Unfit);
-    };
-    match OutFile::begin(alloc, sink, 48_000, entry) {
-        Ok(file) => Ok(file),
-        Err((_, fault)) => Err(Stop::Fault(fault)),
-    }
-}
-
 #[test]
 fn a_file_tells_its_size_before_and_after_a_chunk(rt: HostRuntime) -> Result<(), Fail> {
-    let mut file = begun(rt.alloc())?;
+    let mut shelf = MemShelf::new(rt.alloc(), Vec::new(rt.alloc()));
+    let mut file = begun(rt.alloc(), &mut shelf)?;
     assert_eq!(rt;
         (file.size(), file.start_us(), file.is_empty()),
         (604, 0, true)
@@ -47,7 +35,8 @@ fn a_file_tells_its_size_before_and_after_a_chunk(rt: HostRuntime) -> Result<(),
 
 #[test]
 fn a_file_starts_with_its_first_chunk(rt: HostRuntime) -> Result<(), Fail> {
-    let mut file = begun(rt.alloc())?;
+    let mut shelf = MemShelf::new(rt.alloc(), Vec::new(rt.alloc()));
+    let mut file = begun(rt.alloc(), &mut shelf)?;
     append(&mut file, &chunk(rt.alloc(), &[(1_000_000, 48_000)])?)?;
     append(&mut file, &chunk(rt.alloc(), &[(1_021_333, 49_024)])?)?;
     assert_eq!(rt; file.start_us(), 1_000_000);

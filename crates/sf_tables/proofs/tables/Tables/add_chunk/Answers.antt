@@ -1,7 +1,8 @@
 use Rattle.std.proofs.Common.{◌≡◌, ◌≤◌, List, ◌++◌, length, map, ap, ◌∙◌, arith}
 use Rattle.std.proofs.Common.{subst}
 use Rattle.sf_meaning.specs.Stbl.{Row, timed_of}
-use Rattle.sf_tables.specs.Rows.{TrackTables, timed_as, with_chunk}
+use Rattle.sf_meaning.specs.Layout.{timed}
+use Rattle.sf_tables.specs.Rows.{TrackTables, with_chunk}
 use Rattle.sf_tables.specs.Kept.{rows_kept, timed_kept}
 use Rattle.sf_tick.specs.declared.types.Stored.{Stored}
 use Rattle.sf_tables.specs.declared.kept.KeptChunk.{KeptChunk}
@@ -35,12 +36,12 @@ pub invariant_of-self : goal.invariant_of-self
 invariant_of-self c =
     let rows : rows_kept c.self.inside.chunks.items (map timed_kept c.self.inside.samples.items) ≡ c.args.self.now.rows = ap (λ (t : TrackTables). t.rows) c.self.view_is in
     let added : KeptChunk = record { place = c.args.place; count = length c.as_slice-samples.result.now } in
-    let kept : map timed_kept c.keep_samples.new.list.items ≡ map timed_kept c.self.inside.samples.items ++ map timed_as c.args.chunk.now.samples
-    = c.keep_samples.ensures ∙ ap (λ (xs : List Stored). map timed_kept c.self.inside.samples.items ++ map timed_as xs) c.as_slice-samples.ensures in
+    let kept : map timed_kept c.keep_samples.new.list.items ≡ map timed_kept c.self.inside.samples.items ++ map timed c.args.chunk.now.samples
+    = c.keep_samples.ensures.kept ∙ ap (λ (xs : List Stored). map timed_kept c.self.inside.samples.items ++ map timed xs) c.as_slice-samples.ensures in
     let count : length c.as_slice-samples.result.now ≡ length c.args.chunk.now.samples = ap (λ (xs : List Stored). length xs) c.as_slice-samples.ensures in
-    let totals : c.with_samples-self-inside.result ≡ after_samples c.self.inside.of_samples (map timed_as c.args.chunk.now.samples)
-    = c.with_samples-self-inside.ensures.exact ∙ ap (λ (xs : List Stored). after_samples c.self.inside.of_samples (map timed_as xs)) c.as_slice-samples.ensures in
-    let steady : Steady (after_samples c.self.inside.of_samples (map timed_as c.args.chunk.now.samples)) = subst Steady totals c.with_samples-self-inside.ensures.steady in
+    let totals : c.with_samples-self-inside.result ≡ after_samples c.self.inside.of_samples (map timed c.args.chunk.now.samples)
+    = c.with_samples-self-inside.ensures.exact ∙ ap (λ (xs : List Stored). after_samples c.self.inside.of_samples (map timed xs)) c.as_slice-samples.ensures in
+    let steady : Steady (after_samples c.self.inside.of_samples (map timed c.args.chunk.now.samples)) = subst Steady totals c.with_samples-self-inside.ensures.steady in
     let spreads = subst (λ (k : ChunkTotals). k.spreads ≤ k.chunks) c.with_chunk-self-inside.ensures.exact c.with_chunk-self-inside.ensures.few in
     rw (totals, c.with_chunk-self-inside.ensures.exact, c.push_reserved.ensures.items)
     (sound_with _ _ c.self.inside.samples.items c.keep_samples.new.list.items c.self.inside.chunks.items added c.args.chunk.now c.self.invariant (rw rows c.requires.addable) kept count steady spreads)
@@ -49,8 +50,8 @@ pub returns-clause-rows : goal.returns-clause-rows
 returns-clause-rows c =
     let rows : rows_kept c.self.inside.chunks.items (map timed_kept c.self.inside.samples.items) ≡ c.args.self.now.rows = ap (λ (t : TrackTables). t.rows) c.self.view_is in
     let added : KeptChunk = record { place = c.args.place; count = length c.as_slice-samples.result.now } in
-    let kept : map timed_kept c.keep_samples.new.list.items ≡ map timed_kept c.self.inside.samples.items ++ map timed_as c.args.chunk.now.samples
-    = c.keep_samples.ensures ∙ ap (λ (xs : List Stored). map timed_kept c.self.inside.samples.items ++ map timed_as xs) c.as_slice-samples.ensures in
+    let kept : map timed_kept c.keep_samples.new.list.items ≡ map timed_kept c.self.inside.samples.items ++ map timed c.args.chunk.now.samples
+    = c.keep_samples.ensures.kept ∙ ap (λ (xs : List Stored). map timed_kept c.self.inside.samples.items ++ map timed xs) c.as_slice-samples.ensures in
     let count : length c.as_slice-samples.result.now ≡ length c.args.chunk.now.samples = ap (λ (xs : List Stored). length xs) c.as_slice-samples.ensures in
     rw c.push_reserved.ensures.items
     (rows_with c.self.inside.samples.items c.keep_samples.new.list.items c.self.inside.chunks.items added c.args.chunk.now c.self.invariant.whole kept count
