@@ -26,7 +26,25 @@ struct Block {
 }
 
 impl Block {
-    // Reads on, unless the block holds the part of the source already.
+    // How many of the bytes from a place on the block holds, up to so many.
+    fn held_from(&self, at: u64, most: usize) -> usize
+        requires room { self.now.from + self.now.held < 2 ^ 64 }
+        ensures most { result ≤ most }
+        ensures covers { 1 ≤ result → Covers self.now.from self.now.held at result }
+    {
+        let end = self.from + self.held as u64;
+        if at < self.from || end <= at {
+            return 0;
+        }
+        let held = end - at;
+        if held < most as u64 {
+            held as usize
+        } else {
+            most
+        }
+    }
+
+    // Reads a block from a place on, which has a part of the source.
     fn fill<S: Source>(&mut self, source: &mut S, at: u64, count: usize) -> Result<(), Failed>
         requires window { Window (S.contents source.old) (S.size source.old) self.old.bytes.items self.old.from self.old.held }
         requires fits { count ≤ 65536 }
@@ -38,21 +56,21 @@ impl Block {
         ensures size { S.size source.new ≡ S.size source.old }
         ensures cause { HasCause (S.measure source.old) (S.measure source.new) result }
     {
-        if self.from <= at && at + count as u64 <= self.from + self.held as u64 {
-            return Ok(());
-        }
         self.held = 0;
         self.from = at;
         self.held = source.read_at(at, &mut self.bytes)?;
         Ok(())
     }
 
-    // Copies a part of the source that the block holds.
+    // Copies a part of the source that the block holds, or no byte.
     fn copy(&self, at: u64, into: &mut [u8])
-        requires covers { Covers self.now.from self.now.held at (length into.old) }
+        requires covers { 1 ≤ length into.old → Covers self.now.from self.now.held at (length into.old) }
         requires room { self.now.held ≤ length self.now.bytes.items }
         ensures { into.new ≡ take (length into.old) (drop (at - self.now.from) self.now.bytes.items) }
     {
+        if into.is_empty() {
+            return;
+        }
         let start = (at - self.from) as usize;
         into.copy_from_slice(&self.bytes[start..start + into.len()]);
     }
@@ -111,9 +129,9 @@ impl<S: Source> Blocks<S> {
         self.source
     }
 
-    /// Reads the bytes from a place on, which the source has, into a buffer. A part that is longer
-    /// than the block is read straight into it.
-    pub fn read(&mut self, at: u64, into: &mut [u8]) -> Result<(), Failed>
+    // Reads bytes that the block doesn't hold. A part that is longer than the block is read straight
+    // into its place.
+    fn read_anew(&mut self, at: u64, into: &mut [u8]) -> Result<(), Failed>
         requires { at + length into.old ≤ S.size self.old }
         ensures bytes { OnOk result (AreFrom (S.contents self.old) at into.new) }
         ensures contents { S.contents self.new ≡ S.contents self.old }
@@ -127,5 +145,23 @@ impl<S: Source> Blocks<S> {
         self.block.fill(&mut self.source, at, into.len())?;
         self.block.copy(at, into);
         Ok(())
+    }
+
+    /// Reads the bytes from a place on, which the source has, into a buffer: what the block holds of
+    /// them from the block, and the others from the source.
+    pub fn read(&mut self, at: u64, into: &mut [u8]) -> Result<(), Failed>
+        requires { at + length into.old ≤ S.size self.old }
+        ensures bytes { OnOk result (AreFrom (S.contents self.old) at into.new) }
+        ensures contents { S.contents self.new ≡ S.contents self.old }
+        ensures size { S.size self.new ≡ S.size self.old }
+        ensures cause { HasCause (S.measure self.old) (S.measure self.new) result }
+    {
+        let count = self.block.held_from(at, into.len());
+        let (held, rest) = into.split_at_mut(count);
+        self.block.copy(at, held);
+        if rest.is_empty() {
+            return Ok(());
+        }
+        self.read_anew(at + count as u64, rest)
     }
 }

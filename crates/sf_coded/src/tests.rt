@@ -315,7 +315,7 @@ fn a_payload_may_have_16_777_216_bytes(rt: HostRuntime) -> Result<(), Fail> {
 fn with_a_failing_read(alloc: Global, call: u64) -> Result<(Outcome, Outcome, u64), AllocError> {
     let mut bytes = header(alloc, &[0x11, 0x90])?;
     put_record(&mut bytes, 0, &[1])?;
-    put_record(&mut bytes, 1, pattern(alloc, 70_000)?.as_slice())?;
+    put_record(&mut bytes, 1, pattern(alloc, 140_000)?.as_slice())?;
     put_record(&mut bytes, 2, &[3])?;
     put_bytes(&mut bytes, &[0])?;
     match Coded::begin(alloc, MemSource::new(alloc, bytes, vec![in alloc; call]?)) {
