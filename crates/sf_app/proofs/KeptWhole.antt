@@ -1,20 +1,15 @@
--- A whole file is a first part of itself.
-use Rattle.std.proofs.Common.{ℕ, List, [], length, Option, subst, sym, append-nil, arith}
-use Rattle.std.proofs.Math.Seq.{take-length}
-use Rattle.sf_tick.specs.declared.types.Stored.{Stored}
-use Rattle.sf_app.specs.Answers.{OfFront}
-use Rattle.sf_app.specs.Input.{Parsed}
-use Rattle.sf_app.specs.Kept.{KeptFile, KeptPart}
+-- A recording that is done has kept one file.
+use Rattle.std.proofs.Common.{ℕ, List, Option, Some, inr}
+use Rattle.sf_record.specs.Recorded.{KeptFile, KeptSome}
+use Rattle.sf_record.specs.declared.outcome.Outcome.TheVariants as outcomes
+use Rattle.sf_record.specs.declared.outcome.Report.{Report}
+use Rattle.sf_app.specs.Answers.{RecordedAs, file_name}
+use Rattle.sf_app.specs.Kept.{KeptAtMost}
 
-pub kept_whole : {S : Type 0} (file : List ℕ) (names : S → List (List ℕ)) (files : S → Option (List (List ℕ))) (before after : S)
-    → KeptFile file names files before after → KeptPart file names files before after
-kept_whole file names files before after kept =
-    record {
-      count = length file;
-      part = omega arith;
-      kept = subst (λ (f : List ℕ). KeptFile f names files before after) (sym (take-length file)) kept;
-    }
+kept_some : {S : Type 0} (name file : List ℕ) (names : S → List (List ℕ)) (files : S → Option (List (List ℕ))) (before after : S)
+    → KeptFile name file names files before after → KeptSome name names files before after
+kept_some name file names files before after kept = record { contents = Some file; named = kept.named; kept = kept.kept }
 
--- all samples are samples with which the input begins
-pub of_all : (input : Parsed) (P : List Stored → Type 0) → P input.samples → OfFront input P
-of_all input P holds = record { front = input.samples; rest = []; whole = sym (append-nil input.samples); holds = holds }
+pub kept_whole : {S : Type 0} (contents : Option (List ℕ)) (report : Report) (names : S → List (List ℕ)) (files : S → Option (List (List ℕ))) (before after : S)
+    → RecordedAs contents outcomes.Done report names files before after → KeptAtMost file_name names files before after
+kept_whole contents report names files before after r = inr (kept_some _ _ names files before after r.2.2.movie.kept)

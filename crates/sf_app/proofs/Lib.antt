@@ -1,14 +1,5 @@
-pub mod Taken
-pub mod Going
-pub mod Lengths
-pub mod Runs
-pub mod Sizes
-pub mod OneChunk
-pub mod Bounds
-pub mod Pieces
-pub mod Writable
 pub mod Parts
-pub mod FileOf
-pub mod KeptWhole
 pub mod Putting
 pub mod MovieBoxes
+pub mod KeptWhole
+pub mod Saying

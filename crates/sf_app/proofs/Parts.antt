@@ -2,8 +2,7 @@
 use Rattle.std.proofs.Common.{◌≡◌, ℕ, ◌+◌, ◌≤◌, List, [], ◌++◌, length, take, Option, Some, None, refl, ap, sym, ◌∙◌, append_assoc, append-nil, length-append, arith}
 use Rattle.std.proofs.lemmas.List.{take-append-le}
 use Rattle.std.proofs.Math.Seq.{take-append-add}
-use Rattle.sf_world.specs.Contents.{grown, GrowsByPart}
-use Rattle.sf_app.specs.Kept.{GainsPart}
+use Rattle.sf_world.specs.Contents.{GainsPart, grown, GrowsByPart}
 
 pub grown_none : (before : Option (List ℕ)) → grown before [] ≡ before
 grown_none None = refl

@@ -1,7 +1,6 @@
 -- Lines that are gathered and put into a text, one after the other.
 use Rattle.std.proofs.Common.{◌≡◌, ℕ, List, [], ◌++◌, codes, Option, Result, Ok, Err, OnErr, refl, ap, sym, subst, ◌∙◌, append_assoc, append-nil}
-use Rattle.sf_world.specs.Contents.{grown}
-use Rattle.sf_app.specs.Kept.{GainsPart}
+use Rattle.sf_world.specs.Contents.{GainsPart, grown}
 use Rattle.sf_app.specs.Putting.{Takes}
 use Rattle.sf_app.proofs.Parts.{grown_none, grown_twice, part_none, part_front, part_behind}
 

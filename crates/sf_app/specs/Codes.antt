@@ -1,6 +1,6 @@
 use Rattle.std.specs.Prelude.{ℕ}
 use Rattle.sf_app.specs.declared.status.Status.{Status}
-use Rattle.sf_app.specs.declared.status.Status.TheVariants.{Done, Usage, OpenFault, ReadFault, WriteFault, InputRefused, MovieRefused, NoMemory}
+use Rattle.sf_app.specs.declared.status.Status.TheVariants.{Done, Usage, OpenFault, ReadFault, WriteFault, InputRefused, MovieRefused, LimitReached, NoMemory}
 
 -- the number with which the program ends
 abbrev pub code_of : Status → ℕ
@@ -11,4 +11,5 @@ code_of (ReadFault input) = 4
 code_of WriteFault = 5
 code_of (InputRefused track fault) = 6
 code_of (MovieRefused fault) = 7
+code_of (LimitReached limit) = 8
 code_of NoMemory = 10

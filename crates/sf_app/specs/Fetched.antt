@@ -1,10 +1,5 @@
 -- What inputs were asked for and given back.
-use Rattle.std.specs.Prelude.{◌≡◌, ℕ, ◌≤◌, Bool, true, false, List, [], ◌∷◌, ◌++◌, Option, Some, None}
-
--- a value is the one that is told, if any is
-abbrev pub Known : {A : Type 0} → Option A → A → Type 0
-Known None value = Unit {0}
-Known (Some told) value = value ≡ told
+use Rattle.std.specs.Prelude.{◌≡◌, ℕ, ◌≤◌, Bool, true, false, List, [], ◌∷◌, ◌++◌}
 
 -- A name was asked for; its source was given, and given back.
 pub record GivenBack {I : Type 0} (name : List ℕ) (asked : I → List (List ℕ × Bool)) (returned : I → List ℕ) (before after : I) : Type 0 where

@@ -1,12 +1,7 @@
 pub mod Codes
 pub mod Words
 pub mod Commands
-pub mod Narrow
-pub mod Input
 pub mod Fetched
-pub mod Reading
-pub mod Pieces
-pub mod Tables
 pub mod Kept
 pub mod Lines
 pub mod Answers

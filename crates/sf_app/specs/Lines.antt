@@ -1,20 +1,26 @@
 -- What the text says. Each line ends with a line feed; numbers are decimal.
-use Rattle.std.specs.Prelude.{◌≡◌, ℕ, ◌⊎◌, List, [], ◌++◌, length, codes, Option}
+use Rattle.std.specs.Prelude.{◌≡◌, ℕ, ◌⊎◌, List, [], ◌++◌, codes, Option}
 use Rattle.std.specs.Fmt.{decimal}
-use Rattle.sf_world.specs.Contents.{grown}
+use Rattle.sf_world.specs.Contents.{GainsPart, grown}
 use Rattle.sf_world.specs.Counts.{Rose}
-use Rattle.sf_app.specs.Input.{Parsed}
-use Rattle.sf_app.specs.Kept.{GainsPart, movie_of}
 use Rattle.sf_app.specs.declared.status.Status.{Status}
-use Rattle.sf_app.specs.declared.status.Status.TheVariants.{Done, Usage, OpenFault, ReadFault, WriteFault, InputRefused, MovieRefused, NoMemory}
+use Rattle.sf_app.specs.declared.status.Status.TheVariants.{Done, Usage, OpenFault, ReadFault, WriteFault, InputRefused, MovieRefused, LimitReached, NoMemory}
+use Rattle.sf_record.specs.declared.limits.LimitShown.{LimitShown}
+use Rattle.sf_record.specs.declared.limits.LimitShown.TheVariants.{Movie, Count}
 
 -- the lines of a recording in one file of so many bytes with so many samples
 abbrev pub done_lines : ℕ → ℕ → List ℕ
 done_lines size samples = codes "file 1 " ++ (decimal size ++ (codes "\ntrack 0 " ++ (decimal samples ++ codes "\ndone\n")))
 
--- the lines of the recording of a whole input
-abbrev pub lines_of : Parsed → List ℕ
-lines_of input = done_lines (length (movie_of input)) (length input.samples)
+-- four numbers behind their word, and the end of the line
+abbrev pub limit_numbers : ℕ → ℕ → ℕ → ℕ → List ℕ
+limit_numbers track sample would_be max =
+    decimal track ++ (codes " " ++ (decimal sample ++ (codes " " ++ (decimal would_be ++ (codes " " ++ (decimal max ++ codes "\n"))))))
+
+-- the line of a limit that was reached
+abbrev pub limit_line : LimitShown → List ℕ
+limit_line (Movie track sample would_be max) = codes "limit reached: movie " ++ limit_numbers track sample would_be max
+limit_line (Count track sample would_be max) = codes "limit reached: count " ++ limit_numbers track sample would_be max
 
 -- the line of an answer other than Done
 abbrev pub line_of : Status → List ℕ
@@ -25,6 +31,7 @@ line_of (ReadFault input) = codes "cannot read input " ++ (decimal input ++ code
 line_of WriteFault = codes "cannot write\n"
 line_of (InputRefused track fault) = codes "input refused: track " ++ (decimal track ++ (codes " at " ++ (decimal fault.place ++ codes "\n")))
 line_of (MovieRefused fault) = codes "movie refused\n"
+line_of (LimitReached limit) = limit_line limit
 line_of NoMemory = codes "no memory\n"
 
 -- The text failed, and gained a first part of some lines at most.

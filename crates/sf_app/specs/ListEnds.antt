@@ -9,7 +9,7 @@ use Rattle.sf_app.specs.Fetched.{GivenBack, GivenBackFaulty, NotAsked, NotGiven}
 use Rattle.sf_app.specs.Lines.{line_of, Says}
 use Rattle.sf_app.specs.Listing.{Lists, ListsPart, OfTold}
 use Rattle.sf_app.specs.declared.status.Status.{Status}
-use Rattle.sf_app.specs.declared.status.Status.TheVariants.{Done, Usage, OpenFault, ReadFault, WriteFault, InputRefused, MovieRefused, NoMemory}
+use Rattle.sf_app.specs.declared.status.Status.TheVariants.{Done, Usage, OpenFault, ReadFault, WriteFault, InputRefused, MovieRefused, LimitReached, NoMemory}
 
 -- the answer for a movie, or for what is wrong with the bytes
 abbrev pub movie_answer : Step PlainMovie → Status
@@ -25,6 +25,7 @@ ReadTheMovie (ReadFault input) = ⊥
 ReadTheMovie WriteFault = Unit {0}
 ReadTheMovie (InputRefused track fault) = ⊥
 ReadTheMovie (MovieRefused fault) = Unit {0}
+ReadTheMovie (LimitReached limit) = ⊥
 ReadTheMovie NoMemory = ⊥
 
 -- what stands of the text after an answer: the whole list, a first part of it, or the answer's line
@@ -36,6 +37,7 @@ TextEnds bytes contents text_faults (ReadFault input) text text' = Says (line_of
 TextEnds bytes contents text_faults WriteFault text text' = ListsPart bytes contents text text'
 TextEnds bytes contents text_faults (InputRefused track fault) text text' = ⊥
 TextEnds bytes contents text_faults (MovieRefused fault) text text' = Says (line_of (MovieRefused fault)) contents text_faults text text'
+TextEnds bytes contents text_faults (LimitReached limit) text text' = ⊥
 TextEnds bytes contents text_faults NoMemory text text' = Says (line_of NoMemory) contents text_faults text text' ⊎ ListsPart bytes contents text text'
 
 -- The movie of a name was listed, with this answer. What the inputs and the text tell is that of `RecordEnds`.

@@ -1,10 +1,9 @@
 -- What stands behind each answer of the list of a movie.
 use Rattle.std.specs.Prelude.{◌≡◌, ℕ, List, Option, Some, Result, Ok, Err}
-use Rattle.sf_world.specs.Contents.{grown}
+use Rattle.sf_world.specs.Contents.{GainsPart, grown}
 use Rattle.sf_world.specs.Counts.{Rose}
 use Rattle.sf_meaning.specs.Movie.{Step, movie}
 use Rattle.sf_meaning.specs.declared.movie.PlainMovie.{PlainMovie}
-use Rattle.sf_app.specs.Kept.{GainsPart}
 use Rattle.sf_app.specs.Listed.{listed}
 use Rattle.sf_app.specs.declared.listing.ListFault.{ListFault}
 use Rattle.sf_app.specs.declared.listing.ListFault.TheVariants.{Refused, ReadFault, WriteFault, NoMemory}

@@ -1,10 +1,9 @@
 //! The lines of a movie, put into a text.
 
 ghost use Rattle.std.specs.Prelude.{◌≡◌, ◌≤◌, [], ◌++◌, string_bytes, OnOk, OnErr, IfOk};
-ghost use Rattle.sf_app.specs.Kept.{GainsPart};
 ghost use Rattle.sf_app.specs.Listed.{kind_word, lead_us, listed, sample_line, sample_lines, start_line, sync_count, sync_number, track_line, track_lines};
 ghost use Rattle.sf_app.specs.Putting.{Takes};
-ghost use Rattle.sf_world.specs.Contents.{grown};
+ghost use Rattle.sf_world.specs.Contents.{GainsPart, grown};
 ghost use Rattle.sf_world.specs.Counts.{Rose};
 
 use sf_list::Bytes;

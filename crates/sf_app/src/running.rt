@@ -1,24 +1,25 @@
-ghost use Rattle.std.specs.Prelude.{◌≡◌, ◌≢◌, ℕ, ◌≤◌, ◌⊎◌, List, Ok, Err, Some, length, IfOk};
-ghost use Rattle.sf_app.specs.Answers.{says, CameFromInput, KeptMovie, OfFront, OfInput, Recorded, Refused};
+ghost use Rattle.std.specs.Prelude.{◌≡◌, ◌≢◌, ℕ, ◌≤◌, ◌⊎◌, List, Ok, Err, Some, IfOk};
+ghost use Rattle.sf_app.specs.Answers.{Answered, CameFromInput, MeetsLimit, RecordedAs, file_name};
 ghost use Rattle.sf_app.specs.Fetched.{GivenBack, GivenBackFaulty, NotAsked, NotGiven};
-ghost use Rattle.sf_app.specs.Input.{header_fault, IsOfBytes};
-ghost use Rattle.sf_app.specs.Kept.{file_of, movie_of, KeptAtMost, KeptNone, KeptPart};
+ghost use Rattle.sf_app.specs.Kept.{KeptAtMost};
 ghost use Rattle.sf_app.specs.Lines.{line_of, Says};
 ghost use Rattle.sf_app.specs.ListEnds.{ListEnds};
 ghost use Rattle.sf_app.specs.RecordEnds.{RecordEnds};
 ghost use Rattle.sf_app.specs.Words.{asked, lists, records};
-ghost use Rattle.sf_app.specs.declared.status.TrackFault.{TrackFault};
 ghost use Rattle.sf_app.specs.declared.status.UsageFault.{UsageFault};
 ghost use Rattle.sf_meaning.specs.declared.faults.MovieFault.{MovieFault};
+ghost use Rattle.sf_record.specs.Said.{said_of};
+ghost use Rattle.sf_record.specs.declared.faults.TrackFault.{TrackFault};
+ghost use Rattle.sf_record.specs.declared.limits.LimitShown.{LimitShown};
 ghost use Rattle.sf_world.specs.Counts.{Rose};
 
 use super::Status;
 use super::listed::run_list;
-use super::loading::{LoadFault, load};
-use super::recording::{Report, record_reading};
+use super::loading::record_named;
 use super::telling::{tell_done, tell_refusal};
 use super::words::{Command, read_words};
-use sf_world::{Inputs, Shelf, Sink};
+use sf_record::{Outcome, Report};
+use sf_world::{Denied, Inputs, Shelf, Sink};
 use std::alloc::Global;
 
 // Records the input of a name, but for the text.
@@ -28,49 +29,52 @@ fn perform<I: Inputs, O: Shelf>(
     name: &str,
     shelf: &mut O,
 ) -> Result<Report, Status>
-    ensures recorded { IfOk result (λ report. OfInput (says (I.holds inputs.old) name.now) (λ input.
-        Recorded input O.names O.files shelf.old shelf.new
-        × (report.size ≡ length (movie_of input)) × (report.samples ≡ length input.samples))) }
+    ensures recorded { IfOk result (λ report. RecordedAs (I.holds inputs.old name.now) Outcome.Done report O.names O.files shelf.old shelf.new) }
     ensures missed { (n : ℕ) → result ≡ Err (Status.OpenFault n)
         → (n ≡ 0) × (shelf.new ≡ shelf.old) × Rose (I.misses inputs.old) (I.misses inputs.new) }
     ensures not_given { (n : ℕ) → result ≡ Err (Status.OpenFault n)
         → NotGiven name.now I.asked I.returned inputs.old inputs.new }
     ensures read { (n : ℕ) → result ≡ Err (Status.ReadFault n) → (n ≡ 0) × Rose (I.faults inputs.old) (I.faults inputs.new)
-        × ((shelf.new ≡ shelf.old) ⊎ OfInput (says (I.holds inputs.old) name.now) (λ input.
-        OfFront input (λ front. KeptMovie front O.names O.files shelf.old shelf.new))) }
+        × ((report : Report) × RecordedAs (I.holds inputs.old name.now) Outcome.ReadFault report O.names O.files shelf.old shelf.new) }
     ensures faulty { (n : ℕ) → result ≡ Err (Status.ReadFault n)
         → GivenBackFaulty name.now I.asked I.returned inputs.old inputs.new }
     ensures write { result ≡ Err Status.WriteFault → Rose (O.faults shelf.old) (O.faults shelf.new) }
-    ensures write_kept { result ≡ Err Status.WriteFault → ¬ Rose (I.faults inputs.old) (I.faults inputs.new)
-        → OfInput (says (I.holds inputs.old) name.now) (λ input. KeptAtMost (movie_of input) O.names O.files shelf.old shelf.new) }
-    ensures write_front { result ≡ Err Status.WriteFault → OfInput (says (I.holds inputs.old) name.now) (λ input.
-        OfFront input (λ front. KeptAtMost (file_of front) O.names O.files shelf.old shelf.new)) }
+    ensures write_kept { result ≡ Err Status.WriteFault → KeptAtMost file_name O.names O.files shelf.old shelf.new }
     ensures refused { (track : ℕ) (fault : TrackFault) → result ≡ Err (Status.InputRefused track fault)
-        → (track ≡ 0) × IsOfBytes fault.why × OfInput (says (I.holds inputs.old) name.now) (λ input.
-        Refused fault input O.names O.files shelf.old shelf.new) }
-    ensures header { (input : List ℕ) (fault : TrackFault)
-        → I.holds inputs.old name.now ≡ Some input → header_fault input ≡ Some fault
-        → shelf.new ≡ shelf.old }
-    ensures no_memory { result ≡ Err Status.NoMemory → ¬ Rose (I.faults inputs.old) (I.faults inputs.new) → KeptNone O.names O.files shelf.old shelf.new
-        ⊎ OfInput (says (I.holds inputs.old) name.now) (λ input. KeptPart (movie_of input) O.names O.files shelf.old shelf.new) }
-    ensures no_memory_front { result ≡ Err Status.NoMemory → KeptNone O.names O.files shelf.old shelf.new
-        ⊎ OfInput (says (I.holds inputs.old) name.now) (λ input. OfFront input (λ front. KeptPart (file_of front) O.names O.files shelf.old shelf.new)) }
+        → (track ≡ 0) × ((report : Report) × RecordedAs (I.holds inputs.old name.now) (Outcome.Refused fault) report O.names O.files shelf.old shelf.new) }
+    ensures header { (bytes : List ℕ) (fault : TrackFault) → I.holds inputs.old name.now ≡ Some bytes
+        → (said_of bytes).header ≡ Some fault → shelf.new ≡ shelf.old }
+    ensures limit { (limit : LimitShown) → result ≡ Err (Status.LimitReached limit)
+        → (report : Report) × RecordedAs (I.holds inputs.old name.now) (Outcome.Limit limit) report O.names O.files shelf.old shelf.new }
+    ensures limit_met { (limit : LimitShown) → result ≡ Err (Status.LimitReached limit) → ¬ Rose (I.faults inputs.old) (I.faults inputs.new)
+        → (report : Report) × MeetsLimit (I.holds inputs.old name.now) limit report O.names O.files shelf.old shelf.new }
+    ensures no_memory { result ≡ Err Status.NoMemory → KeptAtMost file_name O.names O.files shelf.old shelf.new }
     ensures asked { result ≡ Err Status.NoMemory → NotAsked I.asked I.returned inputs.old inputs.new
         ⊎ GivenBack name.now I.asked I.returned inputs.old inputs.new }
     ensures given { CameFromInput result
         → GivenBack name.now I.asked I.returned inputs.old inputs.new }
     ensures spare { I.spare inputs.old ≤ I.spare inputs.new }
     ensures holds { (other : List ℕ) → I.holds inputs.new other ≡ I.holds inputs.old other }
+    ensures complete { (bytes : List ℕ) → I.holds inputs.old name.now ≡ Some bytes
+        → ¬ Rose (I.misses inputs.old) (I.misses inputs.new) → ¬ Rose (I.faults inputs.old) (I.faults inputs.new)
+        → ¬ Rose (O.faults shelf.old) (O.faults shelf.new)
+        → Answered result (said_of bytes) }
     ensures done { result ≢ Err Status.Done }
     ensures usage { (fault : UsageFault) → result ≢ Err (Status.Usage fault) }
     ensures movie { (fault : MovieFault) → result ≢ Err (Status.MovieRefused fault) }
 {
-    match load(alloc, inputs, name) {
-        Ok(reading) => record_reading(alloc, &reading, shelf),
-        Err(LoadFault::Refused(fault)) => Err(Status::InputRefused { track: 0, fault }),
-        Err(LoadFault::Open) => Err(Status::OpenFault { input: 0 }),
-        Err(LoadFault::Read) => Err(Status::ReadFault { input: 0 }),
-        Err(LoadFault::NoMemory) => Err(Status::NoMemory),
+    let (outcome, report) = match record_named(alloc, inputs, name, shelf) {
+        Ok(end) => end,
+        Err(Denied::Failed) => return Err(Status::OpenFault { input: 0 }),
+        Err(Denied::NoMemory) => return Err(Status::NoMemory),
+    };
+    match outcome {
+        Outcome::Done => Ok(report),
+        Outcome::WriteFault => Err(Status::WriteFault),
+        Outcome::Limit(limit) => Err(Status::LimitReached(limit)),
+        Outcome::Refused(fault) => Err(Status::InputRefused { track: 0, fault }),
+        Outcome::ReadFault => Err(Status::ReadFault { input: 0 }),
+        Outcome::NoMemory => Err(Status::NoMemory),
     }
 }
 

@@ -1,8 +1,8 @@
 ghost use Rattle.std.specs.Prelude.{◌≡◌};
 ghost use Rattle.sf_app.specs.Codes.{code_of};
 
-use sf_coded::CodedFault;
 use sf_meaning::MovieFault;
+use sf_record::{LimitShown, TrackFault};
 
 /// What is wrong with the words.
 #[derive(Clone, Copy, Debug, PartialEq, Eq)]
@@ -11,22 +11,6 @@ pub enum UsageFault {
     Command,
     /// The words after the command aren't what it takes.
     Words,
-}
-
-/// Why an input is refused.
-#[derive(Clone, Copy, Debug, PartialEq, Eq)]
-pub enum InputFault {
-    /// It is no coded sample file.
-    Coded(CodedFault),
-    /// It is whole so far and of a form that isn't taken yet.
-    NotYet,
-}
-
-/// Why the input of a track is refused, and at which place in its bytes.
-#[derive(Clone, Copy, Debug, PartialEq, Eq)]
-pub struct TrackFault {
-    pub why: InputFault,
-    pub place: u64,
 }
 
 /// How the program ends. Inputs and tracks are numbered from 0.
@@ -42,6 +26,8 @@ pub enum Status {
     WriteFault,
     InputRefused { track: u32, fault: TrackFault },
     MovieRefused(MovieFault),
+    /// With more samples a file would pass a limit.
+    LimitReached(LimitShown),
     NoMemory,
 }
 
@@ -58,6 +44,7 @@ impl Status {
             Status::WriteFault => 5,
             Status::InputRefused { .. } => 6,
             Status::MovieRefused(_) => 7,
+            Status::LimitReached(_) => 8,
             Status::NoMemory => 10,
         }
     }

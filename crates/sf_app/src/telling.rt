@@ -1,8 +1,9 @@
 ghost use Rattle.std.specs.Prelude.{◌≡◌, ◌⊎◌};
-ghost use Rattle.sf_app.specs.Lines.{done_lines, line_of, FailsWithin, Says};
+ghost use Rattle.sf_app.specs.Lines.{done_lines, limit_line, line_of, FailsWithin, Says};
 ghost use Rattle.sf_world.specs.Contents.{grown};
 
 use super::Status;
+use sf_record::LimitShown;
 use sf_world::{Denied, Sink};
 use std::alloc::Global;
 
@@ -34,6 +35,38 @@ fn tell<T: Sink>(text: &mut T, line: &str)
     let _told = text.append(line.as_bytes());
 }
 
+// Puts the line of a limit that was reached into the text, as far as it goes.
+fn tell_limit<T: Sink>(alloc: Global, text: &mut T, limit: &LimitShown)
+    ensures { Says (limit_line limit.now) T.contents T.faults text.old text.new }
+{
+    match limit {
+        LimitShown::Movie {
+            track,
+            sample,
+            would_be,
+            max,
+        } => {
+            if let Ok(line) = format!(in alloc;
+                "limit reached: movie {track} {sample} {would_be} {max}\n"
+            ) {
+                tell(text, line.as_str());
+            }
+        }
+        LimitShown::Count {
+            track,
+            sample,
+            would_be,
+            max,
+        } => {
+            if let Ok(line) = format!(in alloc;
+                "limit reached: count {track} {sample} {would_be} {max}\n"
+            ) {
+                tell(text, line.as_str());
+            }
+        }
+    }
+}
+
 /// Puts the line of an answer other than `Done` into the text, as far as it goes.
 pub(crate) fn tell_refusal<T: Sink>(alloc: Global, text: &mut T, status: &Status)
     ensures { Says (line_of status.now) T.contents T.faults text.old text.new }
@@ -59,6 +92,7 @@ pub(crate) fn tell_refusal<T: Sink>(alloc: Global, text: &mut T, status: &Status
             }
         }
         Status::MovieRefused(_) => tell(text, "movie refused\n"),
+        Status::LimitReached(limit) => tell_limit(alloc, text, limit),
         Status::NoMemory => tell(text, "no memory\n"),
     }
 }

@@ -9,6 +9,7 @@ mod failures;
 mod inputs;
 mod listing;
 mod refusals;
+mod tables;
 mod words;
 
 /// A coded sample file of 103 bytes: its header, three samples of four bytes at 0, 21333 and 42667

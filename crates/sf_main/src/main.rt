@@ -13,17 +13,21 @@ use folder::FolderShelf;
 use sf_app::{Status, run};
 use std::alloc::{AllocError, Global};
 use std::env;
+use std::io::ErrorKind;
 use std::process::ExitCode;
 use std_text::StdText;
 
 // The words after the program's name, none where they are no text.
 fn words(alloc: Global, rt: &HostRuntime) -> Result<Vec<String>, AllocError> {
     let mut words = Vec::new(alloc);
-    let Ok(args) = env::args(rt) else {
-        return Ok(words);
-    };
-    for word in args.skip(1) {
-        words.push(word)?;
+    match env::args(rt) {
+        Ok(args) => {
+            for word in args.skip(1) {
+                words.push(word)?;
+            }
+        }
+        Err(error) if error.kind() == ErrorKind::OutOfMemory => return Err(AllocError),
+        Err(_) => {}
     }
     Ok(words)
 }

@@ -13,10 +13,10 @@ fn a_name_that_is_not_there_makes_no_file(rt: HostRuntime) -> Result<(), Fail> {
     Ok(())
 }
 
-/// Three samples, of which the second is longer than the block through which an input is read. The
-/// first read takes the header and what follows it, the second one the long payload, and the third
-/// one the rest.
-const LONG: [(u64, u32); 3] = [(0, 1), (21_333, 70_000), (42_667, 1)];
+/// Three samples, of which the second is longer than two of the blocks through which an input is read.
+/// The first read takes a block, the second one what lacks of the long payload, and the third one the
+/// rest.
+const LONG: [(u64, u32); 3] = [(0, 1), (21_333, 140_000), (42_667, 1)];
 
 /// The file that is made of a whole input.
 fn file_of(alloc: Global, samples: &[(u64, u32)]) -> Result<Ended, AllocError> {
@@ -36,13 +36,13 @@ fn each_read_of_the_input_fails(rt: HostRuntime) -> Result<(), Fail> {
     let rows: [(u64, Status, &[(u64, u32)], Option<usize>, &[u8]); 4] = [
         (0, read, &LONG[..0], None, said),
         (1, read, &LONG[..1], Some(629), said),
-        (2, read, &LONG[..2], Some(70_637), said),
+        (2, read, &LONG[..2], Some(140_637), said),
         (
             3,
             Status::Done,
             &LONG,
-            Some(70_642),
-            b"file 1 70642\ntrack 0 3\ndone\n",
+            Some(140_642),
+            b"file 1 140642\ntrack 0 3\ndone\n",
         ),
     ];
     for (failing, status, kept, size, lines) in rows {

@@ -34,10 +34,10 @@ fn each_refusal_of_a_header_names_its_field_and_makes_no_file(rt: HostRuntime) -
         (&[(19, 1)], InputFault::Coded(long), 18),
         // A configuration of 258 bytes.
         (&[(20, 1)], InputFault::Coded(truncated), 103),
-        // Video, a timescale, one channel, and other configurations.
+        // Video, more than a million ticks a second, one channel, and other configurations.
         (&[(7, 1)], InputFault::NotYet, 6),
         (&[(8, 1)], InputFault::NotYet, 8),
-        (&[(11, 1)], InputFault::NotYet, 8),
+        (&[(9, 16)], InputFault::NotYet, 8),
         (&[(16, 1)], InputFault::NotYet, 22),
         (&[(17, 1)], InputFault::NotYet, 22),
         (&[(21, 1)], InputFault::NotYet, 22),
@@ -46,8 +46,8 @@ fn each_refusal_of_a_header_names_its_field_and_makes_no_file(rt: HostRuntime) -
         (&[(23, 0x10)], InputFault::NotYet, 22),
         // The form is looked at behind the whole header, by place.
         (&[(7, 1), (20, 1)], InputFault::Coded(truncated), 103),
-        (&[(7, 1), (11, 1), (17, 1)], InputFault::NotYet, 6),
-        (&[(11, 1), (17, 1)], InputFault::NotYet, 8),
+        (&[(7, 1), (8, 1), (17, 1)], InputFault::NotYet, 6),
+        (&[(8, 1), (17, 1)], InputFault::NotYet, 8),
     ];
     for (changes, why, place) in rows {
         let ended = run_words(alloc, &["record", "a"], &changed(changes))?;
@@ -80,7 +80,7 @@ fn each_refusal_of_a_record_keeps_the_samples_before_it(rt: HostRuntime) -> Resu
         len: 16_777_220,
     };
     // What is changed, the length, the fault, its place, and the size of the file of the samples before it.
-    let rows: [(&[(usize, u8)], usize, InputFault, u64, usize); 14] = [
+    let rows: [(&[(usize, u8)], usize, InputFault, u64, usize); 12] = [
         (
             &[(24, 2)],
             103,
@@ -111,19 +111,27 @@ fn each_refusal_of_a_record_keeps_the_samples_before_it(rt: HostRuntime) -> Resu
         ),
         (&[(45, 0)], 103, InputFault::Coded(empty), 24, 604),
         (&[(42, 1)], 103, InputFault::Coded(long), 24, 604),
-        // No sync sample.
-        (&[(25, 0)], 103, InputFault::NotYet, 24, 604),
-        (&[(25, 254)], 103, InputFault::NotYet, 24, 604),
-        // Another time to be shown at.
-        (&[(41, 1)], 103, InputFault::NotYet, 24, 604),
-        // Later than a second.
-        (&[(57, 0x10), (65, 0x10)], 103, InputFault::NotYet, 50, 632),
-        // Earlier than the one before.
-        (&[(84, 0), (92, 0)], 103, InputFault::NotYet, 76, 636),
-        // The record's own refusals come before its form.
-        (&[(25, 0), (45, 0)], 103, InputFault::Coded(empty), 24, 604),
+        // Later than 2^30 microseconds: decoded, or shown.
+        (&[(54, 0x50)], 103, InputFault::NotYet, 50, 632),
+        (&[(62, 0x50)], 103, InputFault::NotYet, 50, 632),
+        // Decoded earlier than the one before, at 0 after 21333 microseconds.
         (
-            &[(25, 0)],
+            &[(84, 0), (85, 0), (92, 0), (93, 0)],
+            103,
+            InputFault::Sample(SampleFault::Falls { last_us: 21_333 }),
+            76,
+            636,
+        ),
+        // The record's own refusals come before its form.
+        (
+            &[(28, 0x50), (45, 0)],
+            103,
+            InputFault::Coded(empty),
+            24,
+            604,
+        ),
+        (
+            &[(28, 0x50)],
             49,
             InputFault::Coded(CodedFault::Truncated { at: 49 }),
             49,
@@ -149,28 +157,23 @@ fn each_refusal_of_a_record_keeps_the_samples_before_it(rt: HostRuntime) -> Resu
 }
 
 #[test]
-fn times_and_payloads_are_taken_up_to_their_bounds(rt: HostRuntime) -> Result<(), Fail> {
-    // The samples, and the place of the fault, if any.
-    let rows: [(&[(u64, u32)], Option<u64>); 7] = [
+fn times_are_taken_up_to_their_bound(rt: HostRuntime) -> Result<(), Fail> {
+    // The samples, and the fault and its place, if any.
+    let falls = InputFault::Sample(SampleFault::Falls { last_us: 5 });
+    let rows: [(&[(u64, u32)], Option<(InputFault, u64)>); 4] = [
         (&[(0, 1), (0, 1)], None),
-        (&[(5, 1), (4, 1)], Some(47)),
-        (&[(1_000_000, 1)], None),
-        (&[(1_000_001, 1)], Some(24)),
-        (&[(0, 4_194_303)], None),
-        (&[(0, 4_194_304)], Some(24)),
-        (&[(0, 4_194_302), (0, 2)], Some(4_194_348)),
+        (&[(5, 1), (4, 1)], Some((falls, 47))),
+        (&[(1_073_741_824, 1)], None),
+        (&[(1_073_741_825, 1)], Some((InputFault::NotYet, 24))),
     ];
     for (samples, fault) in rows {
         let input = input_of(rt.alloc(), samples)?;
         let ended = run_words(rt.alloc(), &["record", "a"], &input)?;
         let status = match fault {
             None => Status::Done,
-            Some(place) => Status::InputRefused {
+            Some((why, place)) => Status::InputRefused {
                 track: 0,
-                fault: TrackFault {
-                    why: InputFault::NotYet,
-                    place,
-                },
+                fault: TrackFault { why, place },
             },
         };
         assert_eq!(rt; ended.status, status);

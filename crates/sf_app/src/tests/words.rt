@@ -1,6 +1,7 @@
-//! Words that no command takes.
+//! Words that no command takes, and the codes and lines of answers.
 
 use super::*;
+use crate::telling::tell_refusal;
 use std::test::Fail;
 
 const USAGE: &[u8] =
@@ -39,6 +40,12 @@ fn each_answer_has_its_code(rt: HostRuntime) {
         why: InputFault::NotYet,
         place: 0,
     };
+    let limit = LimitShown::Count {
+        track: 0,
+        sample: 0,
+        would_be: 1,
+        max: 0,
+    };
     let codes = [
         (Status::Done, 0),
         (Status::Usage(UsageFault::Words), 2),
@@ -47,9 +54,43 @@ fn each_answer_has_its_code(rt: HostRuntime) {
         (Status::WriteFault, 5),
         (Status::InputRefused { track: 0, fault }, 6),
         (Status::MovieRefused(MovieFault::NoMoov { at: 0 }), 7),
+        (Status::LimitReached(limit), 8),
         (Status::NoMemory, 10),
     ];
     for (status, code) in codes {
         assert_eq!(rt; status.code(), code);
     }
+}
+
+#[test]
+fn each_limit_has_its_line(rt: HostRuntime) -> Result<(), Fail> {
+    let alloc = rt.alloc();
+    let movie = LimitShown::Movie {
+        track: 0,
+        sample: 5_000_000,
+        would_be: 268_435_460,
+        max: 268_435_456,
+    };
+    let count = LimitShown::Count {
+        track: 0,
+        sample: 16_777_215,
+        would_be: 16_777_217,
+        max: 16_777_216,
+    };
+    let rows: [(LimitShown, &[u8]); 2] = [
+        (
+            movie,
+            b"limit reached: movie 0 5000000 268435460 268435456\n",
+        ),
+        (
+            count,
+            b"limit reached: count 0 16777215 16777217 16777216\n",
+        ),
+    ];
+    for (limit, line) in rows {
+        let mut text = MemText::new(alloc);
+        tell_refusal(alloc, &mut text, &Status::LimitReached(limit));
+        assert_eq!(rt; text.bytes(), line);
+    }
+    Ok(())
 }

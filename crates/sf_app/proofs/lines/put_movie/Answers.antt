@@ -1,11 +1,11 @@
 use Rattle.std.proofs.Common.{◌≡◌, ℕ, List, [], ◌++◌, Option, subst, ◌∙◌}
 use Rattle.std.proofs.lemmas.Result.{on_ok_weaker, on_err_weaker}
 use Rattle.sf_meaning.specs.declared.movie.PlainTrack.{PlainTrack}
-use Rattle.sf_app.specs.Kept.{GainsPart}
 use Rattle.sf_app.specs.Listed.{listed, start_line, track_lines}
 use Rattle.sf_app.specs.Putting.{Takes}
 use Rattle.sf_app.proofs.Putting.{always_err, all_part, all_put, part_after, takes_twice}
 use Rattle.sf_app.proofs.lines.put_movie.Goals as goal
+use Rattle.sf_world.specs.Contents.{GainsPart}
 
 -- the first line, where nothing was gathered before
 from_nothing : (line line' : List ℕ) (t t' : Option (List ℕ)) (g g' : List ℕ) → line ≡ line' → g ≡ [] → Takes line t g t' g' → Takes line' t [] t' g'

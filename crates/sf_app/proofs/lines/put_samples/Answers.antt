@@ -1,11 +1,11 @@
 use Rattle.std.proofs.Common.{ℕ, ◌≡◌, ◌+◌, ◌≤◌, ◌∷◌, [], ◌++◌, List, Option, length, drop, get_or, pos, false, sym, ap, subst, ◌∙◌, arith}
 use Rattle.std.proofs.lemmas.List.{drop_more, drop_all}
 use Rattle.sf_meaning.specs.declared.movie.PlainSample.{PlainSample}
-use Rattle.sf_app.specs.Kept.{GainsPart}
 use Rattle.sf_app.specs.Listed.{sample_line, sample_lines}
 use Rattle.sf_app.specs.Putting.{Takes}
 use Rattle.sf_app.proofs.Putting.{Going, always_err, going_first, going_on, going_end, going_part, going_stop}
 use Rattle.sf_app.proofs.lines.put_samples.Goals as goal
+use Rattle.sf_world.specs.Contents.{GainsPart}
 
 abbrev nothing : PlainSample
 nothing = record { decode = 0; compose = pos 0; sync = false; place = 0; size = 0; description = 0 }

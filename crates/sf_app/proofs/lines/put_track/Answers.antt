@@ -1,11 +1,11 @@
 use Rattle.std.proofs.Common.{◌≡◌, ℕ, List, ◌++◌, subst, ◌∙◌}
 use Rattle.std.proofs.lemmas.Result.{on_ok_weaker, on_err_weaker}
 use Rattle.sf_meaning.specs.declared.movie.PlainSample.{PlainSample}
-use Rattle.sf_app.specs.Kept.{GainsPart}
 use Rattle.sf_app.specs.Listed.{sample_lines, track_line}
 use Rattle.sf_app.specs.Putting.{Takes}
 use Rattle.sf_app.proofs.Putting.{takes_twice, part_after}
 use Rattle.sf_app.proofs.lines.put_track.Goals as goal
+use Rattle.sf_world.specs.Contents.{GainsPart}
 
 pub returns-clause-ok : goal.returns-clause-ok
 returns-clause-ok g c =

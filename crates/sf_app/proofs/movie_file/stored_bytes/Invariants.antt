@@ -1,6 +1,0 @@
-use Rattle.std.proofs.Common.{◌≡◌, take}
-use Rattle.sf_meaning.specs.Layout.{stored_bytes}
-use Rattle.sf_app.proofs.movie_file.stored_bytes.Given as goal
-
-abbrev pub invariant-loop-sample : goal.invariant-loop-sample
-invariant-loop-sample l = l.out ≡ stored_bytes (take l.sample-index l.samples)

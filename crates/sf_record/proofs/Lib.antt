@@ -1,0 +1,10 @@
+pub mod Limited
+pub mod Inputs
+pub mod Endings
+pub mod Copied
+pub mod Counted
+pub mod Wrote
+pub mod Headers
+pub mod Recordings
+pub mod Early
+pub mod Errors

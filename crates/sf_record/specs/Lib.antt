@@ -1,0 +1,11 @@
+pub mod Limits
+pub mod Holding
+pub mod Input
+pub mod Said
+pub mod Reading
+pub mod Going
+pub mod Pumping
+pub mod PumpingCode
+pub mod Copying
+pub mod Recorded
+pub mod Written

@@ -1,0 +1,27 @@
+//! Recording: what an input says is read, put together into chunks, and written into a file.
+//!
+//! A `Pump` reads the coded sample file of one track sample by sample into a gatherer. The chunks
+//! that it hands out are the chunks of the samples that it accepted: all samples of the input up to
+//! its first fault, which the pump keeps. `copy_chunks` puts them into an open file, up to the limits
+//! of a file; `record_one` makes one file of one input so on a shelf.
+#![tactic(auto)]
+
+mod copying;
+mod faults;
+mod form;
+mod limits;
+mod outcome;
+mod pump;
+mod putting;
+mod recording;
+mod turns;
+mod writing;
+
+pub use faults::{InputFault, TrackFault};
+pub use limits::LimitShown;
+pub use outcome::{Outcome, RecordEnd, Report};
+pub use pump::{Pump, Stepped};
+pub use recording::record_one;
+
+#[cfg(test)]
+mod tests;

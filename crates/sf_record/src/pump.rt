@@ -1,0 +1,202 @@
+ghost use Rattle.std.specs.Prelude.{◌≡◌, ◌≤◌, ◌<◌, ◌^◌, ◌++◌, List, [], Option, None, Some, false, IfSome, IfNone, IsSome, ◌⊎◌};
+ghost use Rattle.std.specs.List.{AllByRecursion};
+ghost use Rattle.std.specs.Option.{option_to_list, option_copied};
+ghost use Rattle.sf_tick.specs.declared.types.Chunk.{Chunk};
+ghost use Rattle.sf_tick.specs.declared.types.Stored.{Stored};
+ghost use Rattle.sf_coded.specs.Progress.{Stands as FileStands};
+ghost use Rattle.sf_gather.specs.Chunks.{chunks, closed, marked};
+ghost use Rattle.sf_gather.specs.Gathered.{Stands as GatherStands};
+ghost use Rattle.sf_gather.specs.Proper.{Proper};
+ghost use Rattle.sf_world.specs.Counts.{Rose};
+ghost use Rattle.sf_record.specs.Input.{read_fault};
+ghost use Rattle.sf_record.specs.Pumping.{NotEndedEarly, Stands, StepsTo, left, rest_of};
+
+use crate::faults::TrackFault;
+use crate::turns::{Advance, go_on};
+use sf_coded::{Coded, CodedSample};
+use sf_gather::{Gather, Given, Options, closed_chunks_stay, proper_chunks};
+use sf_tick::{Chunk, Kind};
+use sf_world::Source;
+use std::alloc::Global;
+use std::marker::Model;
+
+/// What a step of a pump did.
+#[derive(Clone, Copy, Debug, PartialEq, Eq)]
+pub enum Stepped {
+    /// A sample was accepted, or nothing more is taken of the input and the last chunk was made.
+    Moved,
+    /// The pump holds a chunk, which is to be taken first.
+    HasChunk,
+    /// The last chunk was taken.
+    Done,
+    /// There is no memory. Nothing is lost, and the step can be tried again.
+    NoMemory,
+}
+
+/// The coded sample file of one track, on its way into chunks.
+#[derive(Drop)]
+pub struct Pump<S: Source> {
+    given: Given,
+    coded: Coded<S>,
+    /// A sample that was read and for which there was no memory.
+    held: Option<CodedSample>,
+    /// None once the last chunk was made.
+    gather: Option<Gather>,
+    chunk: Option<Chunk>,
+    fault: Option<TrackFault>,
+}
+
+impl<S: Source> Model for Pump<S> {
+    ghost use Rattle.sf_record.specs.Pumping.{Pumping, Sound};
+    ghost use Rattle.sf_record.specs.PumpingCode.{pumping_code};
+
+    ghost Value = { Pumping S };
+
+    ghost coded = { pumping_code S.code };
+
+    ghost view = { λ p. record { given = p.given; coded = p.coded; held_back = p.held; gatherer = p.gather; chunk = p.chunk; fault = p.fault } };
+
+    ghost invariant = { λ p. Sound p.given p.coded.place p.held p.gather };
+}
+
+impl<S: Source> Pump<S> {
+    /// A pump for a coded file of which no sample was read, at `scale` ticks a second. So far the
+    /// kind is sound.
+    pub fn new(alloc: Global, track: u32, coded: Coded<S>, scale: u32, options: Options) -> Pump<S>
+        requires unread { FileStands (S.contents coded.source) coded.setup [] coded.place }
+        requires fresh { coded.is_over ≡ false }
+        requires kind { coded.setup.kind ≡ Kind.Aac }
+        requires scale { 1 ≤ scale }
+        ensures given { result.given ≡ record { track = track; kind = Kind.Aac; scale = scale; options = options } }
+        ensures coded { result.coded ≡ coded }
+        ensures gatherer { IsSome result.gatherer }
+        ensures chunk { result.chunk ≡ None }
+        ensures stands { Stands (S.contents coded.source) [] [] result }
+    {
+        let given = Given {
+            track,
+            kind: Kind::Aac,
+            scale,
+            options,
+        };
+        Pump {
+            given,
+            coded,
+            held: None,
+            gather: Some(Gather::new(alloc, track, Kind::Aac, scale, options)),
+            chunk: None,
+            fault: None,
+        }
+    }
+
+    /// Accepts the next sample of the input, unless a chunk is held. At the end of the input, and at
+    /// its first fault, which is kept, the last chunk is made.
+    pub fn step(&mut self) -> Stepped
+        ensures rest { IfSome (rest_of self.old) (λ answer. (result ≡ answer) × (self.new ≡ self.old)) }
+        ensures goes { IfNone (rest_of self.old) ((result ≡ Stepped.Moved) ⊎ (result ≡ Stepped.NoMemory)) }
+        ensures held { result ≡ Stepped.HasChunk → IsSome self.new.chunk }
+        ensures over { result ≡ Stepped.Done → (self.new.chunk ≡ None) × (self.new.gatherer ≡ None) }
+        ensures stands { (accepted : List Stored) (taken : List Chunk) → Stands (S.contents self.old.coded.source) accepted taken self.old
+            → StepsTo (S.contents self.new.coded.source) accepted taken self.new result }
+        ensures no_memory { result ≡ Stepped.NoMemory → (self.new.gatherer ≡ self.old.gatherer) × (self.new.chunk ≡ None) × (self.new.fault ≡ self.old.fault) }
+        ensures not_early { NotEndedEarly self.old → NotEndedEarly self.new }
+        ensures less { result ≡ Stepped.Moved → left (S.size self.old.coded.source) self.new < left (S.size self.old.coded.source) self.old }
+        ensures failed { self.old.fault ≡ None → self.new.fault ≡ Some read_fault
+            → Rose (S.measure self.old.coded.source) (S.measure self.new.coded.source) }
+        ensures later { S.measure self.old.coded.source ≤ S.measure self.new.coded.source }
+        ensures given { self.new.given ≡ self.old.given }
+        ensures setup { self.new.coded.setup ≡ self.old.coded.setup }
+        ensures contents { S.contents self.new.coded.source ≡ S.contents self.old.coded.source }
+        ensures size { S.size self.new.coded.source ≡ S.size self.old.coded.source }
+    {
+        if self.chunk.is_some() {
+            return Stepped::HasChunk;
+        }
+        let Some(gather) = &mut self.gather else {
+            return Stepped::Done;
+        };
+        match go_on(gather, &mut self.held, &mut self.coded) {
+            Advance::Accepted(closed) => {
+                self.chunk = closed;
+                Stepped::Moved
+            }
+            Advance::Ended(fault) => {
+                self.make_last(fault);
+                Stepped::Moved
+            }
+            Advance::NoMemory => Stepped::NoMemory,
+        }
+    }
+
+    // Makes the last chunk of the samples so far, and keeps why the input isn't whole.
+    fn make_last(&mut self, fault: Option<TrackFault>)
+        ensures coded { self.new.coded ≡ self.old.coded }
+        ensures over { self.old.gatherer ≡ None → self.new ≡ self.old }
+        ensures made { IfSome self.old.gatherer (λ g. self.new
+            ≡ record { given = self.old.given; coded = self.old.coded; held_back = None; gatherer = None; chunk = Some (marked g.chunk); fault = fault }) }
+        ensures chunks { IfSome self.old.gatherer (λ g. (samples : List Stored) → GatherStands samples g
+            → chunks self.old.given samples ≡ closed self.old.given samples ++ option_to_list self.new.chunk) }
+        ensures proper { IfSome self.old.gatherer (λ g. (samples : List Stored) → GatherStands samples g
+            → Proper self.old.given.track self.old.given.scale (chunks self.old.given samples)) }
+    {
+        if let Some(gather) = self.gather.take() {
+            self.chunk = Some(gather.end());
+            self.held = None;
+            self.fault = fault;
+        }
+    }
+
+    /// The chunk that the pump holds, if any.
+    pub fn take_chunk(&mut self) -> Option<Chunk>
+        ensures exact { result ≡ self.old.chunk }
+        ensures rest { self.new ≡ record self.old { chunk = None } }
+        ensures stands { (accepted : List Stored) (taken : List Chunk) → Stands (S.contents self.old.coded.source) accepted taken self.old
+            → Stands (S.contents self.new.coded.source) accepted (taken ++ option_to_list result) self.new }
+        ensures proper { (accepted : List Stored) (taken : List Chunk) → Stands (S.contents self.old.coded.source) accepted taken self.old
+            → Proper self.new.given.track self.new.given.scale (taken ++ option_to_list result) }
+        ensures stays { (accepted : List Stored) (taken : List Chunk) → Stands (S.contents self.old.coded.source) accepted taken self.old
+            → IsSome self.old.gatherer → (more : List Stored)
+            → (rest : List Chunk) × (chunks self.old.given (accepted ++ more) ≡ (taken ++ option_to_list result) ++ rest) }
+        ensures early { (accepted : List Stored) (taken : List Chunk) → Stands (S.contents self.old.coded.source) accepted taken self.old
+            → IfSome result (λ chunk. AllByRecursion (λ s. s.dts_us ≤ 2 ^ 30) chunk.samples) }
+    {
+        // The samples of the chunks are the accepted ones, and more samples don't change what was handed out.
+        proper_chunks(self.given);
+        closed_chunks_stay(self.given);
+        self.chunk.take()
+    }
+
+    /// Makes the last chunk of the samples so far, and keeps no fault. Where the last chunk was made
+    /// already it does nothing.
+    pub fn end_early(&mut self)
+        requires { IsSome self.old.gatherer → self.old.chunk ≡ None }
+        ensures over { self.old.gatherer ≡ None → self.new ≡ self.old }
+        ensures made { IfSome self.old.gatherer (λ g. self.new
+            ≡ record { given = self.old.given; coded = self.old.coded; held_back = None; gatherer = None; chunk = Some (marked g.chunk); fault = None }) }
+        ensures stands { (accepted : List Stored) (taken : List Chunk) → Stands (S.contents self.old.coded.source) accepted taken self.old
+            → Stands (S.contents self.new.coded.source) accepted taken self.new }
+    {
+        self.make_last(None);
+    }
+
+    /// Why the input isn't whole. A failed read is kept as a fault of the coded file, at place 0.
+    pub fn fault(&self) -> Option<&TrackFault>
+        ensures { option_copied result ≡ self.now.fault }
+    {
+        self.fault.as_ref()
+    }
+
+    /// How many ticks a second the track has.
+    pub(crate) fn scale(&self) -> u32
+        ensures { result ≡ self.now.given.scale }
+    {
+        self.given.scale
+    }
+
+    /// The source alone.
+    pub fn give_source(self) -> S
+        ensures { result ≡ self.coded.source }
+    {
+        self.coded.give_source()
+    }
+}

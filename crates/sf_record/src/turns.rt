@@ -1,0 +1,119 @@
+ghost use Rattle.std.specs.Prelude.{◌≡◌, ◌≤◌, ◌<◌, ◌+◌, ◌-◌, ◌*◌, ◌^◌, ℕ, List, Option, None, Some, true, false, length};
+ghost use Rattle.sf_tick.specs.declared.types.Stored.{Stored};
+ghost use Rattle.sf_gather.specs.declared.given.Given.{Given};
+ghost use Rattle.sf_gather.specs.Gathered.{Stands as GatherStands};
+ghost use Rattle.sf_world.specs.Counts.{Rose};
+ghost use Rattle.sf_record.specs.Input.{is_late, read_fault};
+ghost use Rattle.sf_record.specs.Reading.{Fits, Reads, TurnReads, TurnFits, TurnGoes, weight, turn_weight};
+ghost use Rattle.sf_record.specs.Going.{AdvancesTo, PutIn, AdvanceGoes, advance_weight};
+
+use crate::faults::{TrackFault, coded_fault, not_yet, sample_fault};
+use sf_coded::{Coded, CodedFault, CodedSample};
+use sf_gather::{Gather, SampleFault};
+use sf_tick::{Chunk, Sample};
+use sf_world::Source;
+
+/// The greatest time that is taken in this form, in microseconds.
+const GREATEST_US: u64 = 1 << 30;
+
+/// What comes next of an input.
+pub(crate) enum Turn {
+    Next(CodedSample),
+    /// Its end, and the fault there if it isn't whole.
+    End(Option<TrackFault>),
+    NoMemory,
+}
+
+/// What one step made of an input.
+pub(crate) enum Advance {
+    /// A sample was accepted, which may have closed a chunk.
+    Accepted(Option<Chunk>),
+    /// Nothing more is taken, and why if the input isn't whole.
+    Ended(Option<TrackFault>),
+    NoMemory,
+}
+
+// Whether a time of a sample passes the greatest one.
+fn is_late(sample: &Sample) -> bool
+    ensures { result ≡ is_late sample.now }
+{
+    sample.dts_us > GREATEST_US || sample.pts_us > GREATEST_US
+}
+
+// What comes next: the sample that was held back, else the next one of the file.
+fn next_turn<S: Source>(held: &mut Option<CodedSample>, coded: &mut Coded<S>) -> Turn
+    ensures held { held.new ≡ None }
+    ensures reads { (given : Given) (accepted : List Stored)
+        → Reads (S.contents coded.old.source) given accepted coded.old.setup coded.old.place held.old
+        → TurnReads (S.contents coded.new.source) given accepted coded.new.setup coded.new.place result }
+    ensures fits { (number : ℕ) → Fits number coded.old.place held.old → TurnFits number coded.new.place result }
+    ensures goes { coded.old.is_over ≡ false → TurnGoes coded.new.is_over result }
+    ensures over { result ≡ Turn.End None → coded.new.is_over ≡ true }
+    ensures nearer { turn_weight (S.size coded.old.source) coded.new.place result ≤ weight (S.size coded.old.source) coded.old.place held.old }
+    ensures failed { result ≡ Turn.End (Some read_fault) → Rose (S.measure coded.old.source) (S.measure coded.new.source) }
+    ensures later { S.measure coded.old.source ≤ S.measure coded.new.source }
+    ensures setup { coded.new.setup ≡ coded.old.setup }
+    ensures contents { S.contents coded.new.source ≡ S.contents coded.old.source }
+    ensures size { S.size coded.new.source ≡ S.size coded.old.source }
+{
+    if let Some(found) = held.take() {
+        return Turn::Next(found);
+    }
+    match coded.next() {
+        Ok(Some(found)) => Turn::Next(found),
+        Ok(None) => Turn::End(None),
+        Err(CodedFault::NoMemory) => Turn::NoMemory,
+        Err(fault) => Turn::End(Some(coded_fault(fault))),
+    }
+}
+
+// Puts a sample into the gatherer. Without memory it is held back.
+fn put(gather: &mut Gather, held: &mut Option<CodedSample>, found: CodedSample) -> Advance
+    requires some { 1 ≤ length found.sample.bytes }
+    requires size { length found.sample.bytes ≤ 16777216 }
+    requires number { gather.old.chunk.number < 2 ^ 64 - 1 }
+    requires held { held.old ≡ None }
+    ensures { PutIn gather.old found gather.new held.new result }
+{
+    if is_late(&found.sample) {
+        return Advance::Ended(Some(not_yet(found.at)));
+    }
+    let CodedSample { at, sample } = found;
+    match gather.accept(sample) {
+        Ok(closed) => Advance::Accepted(closed),
+        Err((sample, SampleFault::NoMemory)) => {
+            *held = Some(CodedSample { at, sample });
+            Advance::NoMemory
+        }
+        Err((_, fault)) => Advance::Ended(Some(sample_fault(at, fault))),
+    }
+}
+
+/// One step along the input: a sample is accepted, or nothing more is taken.
+pub(crate) fn go_on<S: Source>(
+    gather: &mut Gather,
+    held: &mut Option<CodedSample>,
+    coded: &mut Coded<S>,
+) -> Advance
+    requires { Fits gather.old.chunk.number coded.old.place held.old }
+    ensures goes { (accepted : List Stored) → GatherStands accepted gather.old
+        → Reads (S.contents coded.old.source) gather.old.given accepted coded.old.setup coded.old.place held.old
+        → AdvancesTo (S.contents coded.new.source) gather.old.given accepted gather.new coded.new.setup coded.new.place held.new result }
+    ensures given { gather.new.given ≡ gather.old.given }
+    ensures unchanged { result ≡ Advance.NoMemory → gather.new ≡ gather.old }
+    ensures fits { Fits gather.new.chunk.number coded.new.place held.new }
+    ensures on { coded.old.is_over ≡ false → AdvanceGoes coded.new.is_over result }
+    ensures over { result ≡ Advance.Ended None → coded.new.is_over ≡ true }
+    ensures nearer { advance_weight (S.size coded.old.source) coded.new.place held.new result ≤ weight (S.size coded.old.source) coded.old.place held.old }
+    ensures failed { result ≡ Advance.Ended (Some read_fault) → Rose (S.measure coded.old.source) (S.measure coded.new.source) }
+    ensures later { S.measure coded.old.source ≤ S.measure coded.new.source }
+    ensures setup { coded.new.setup ≡ coded.old.setup }
+    ensures contents { S.contents coded.new.source ≡ S.contents coded.old.source }
+    ensures size { S.size coded.new.source ≡ S.size coded.old.source }
+{
+    match next_turn(held, coded) {
+        Turn::Next(found) => put(gather, held, found),
+        Turn::End(fault) => Advance::Ended(fault),
+        Turn::NoMemory => Advance::NoMemory,
+    }
+}
