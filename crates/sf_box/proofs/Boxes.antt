@@ -1,11 +1,11 @@
 -- What is known of the list of boxes: one step, a box in front, the first fault.
 use Rattle.std.proofs.Common.{◌≡◌, ℕ, zero, suc, ◌+◌, ◌-◌, ◌^◌, ◌<◌, ◌≤◌, Bool, true, false, cond, ◌||◌, ltb, ◌==◌, ◌⊎◌, inl, inr, List, [], ◌∷◌, ◌++◌, length, take, drop, Result, Ok, Err, refl, sym, ap, ◌∙◌, append_assoc, arith}
 use Rattle.std.proofs.lemmas.Bool.{le-ltb, ltb-false, ne_eqb}
-use Rattle.std.proofs.lemmas.List.{length-append, length-drop, take_at, drop_at, drop-drop}
+use Rattle.std.proofs.lemmas.List.{length-append, length-drop, take_at, drop_at, drop-drop, append-nil, nil_from_length}
 use Rattle.sf_box.specs.declared.types.BoxHead.{BoxHead}
 use Rattle.sf_box.specs.declared.types.BoxFault.{BoxFault}
 use Rattle.sf_box.specs.declared.types.BoxFault.TheVariants.{Overrun}
-use Rattle.sf_box.specs.Boxes.{Takes, be32, be64, word32, word64, box_of, wide_box, sized, head_of, with_first, first_then, piece_of, tiles, boxes}
+use Rattle.sf_box.specs.Boxes.{Piece, Takes, be32, be64, word32, word64, box_of, wide_box, sized, head_of, with_first, joined_with, first_then, piece_of, tiles, boxes}
 use Rattle.sf_box.proofs.Numbers.{length-be32, length-be64, length-box_of, length-wide_box, word32_of, word64_of, drop_word, drop_wide}
 
 -- the two ways of a choice
@@ -128,6 +128,42 @@ pub boxes_fault : (top : Bool) (at : ℕ) (bytes : List ℕ) (f : BoxFault) → 
 unfolding boxes tiles
 boxes_fault top at [] f some e = absurd (omega arith)
 boxes_fault top at (b ∷ bytes) f some e = rw e refl
+
+by_head : (top : Bool) (at : ℕ) (bytes : List ℕ) (r : Result BoxHead BoxFault) → 0 < length bytes → head_of top at bytes ≡ r
+    → boxes top at bytes ≡ first_then r (λ h. with_first (piece_of h bytes) (boxes top (at + h.size) (drop h.size bytes)))
+by_head top at bytes (Ok h) some e = boxes_step top at bytes h e
+by_head top at bytes (Err f) some e = boxes_fault top at bytes f some e
+
+-- the boxes of bytes are the first head's box and the boxes of the rest, or the first fault
+pub boxes_by_head : (top : Bool) (at : ℕ) (bytes : List ℕ) → 0 < length bytes
+    → boxes top at bytes ≡ first_then (head_of top at bytes) (λ h. with_first (piece_of h bytes) (boxes top (at + h.size) (drop h.size bytes)))
+boxes_by_head top at bytes some = by_head top at bytes (head_of top at bytes) some refl
+
+-- ---- a walk along boxes: those met so far, then those of the rest
+
+pub joined_more : (ps : List Piece) (p : Piece) (r : Result (List Piece) BoxFault) → joined_with ps (with_first p r) ≡ joined_with (ps ++ p ∷ []) r
+joined_more ps p (Ok qs) = ap (λ (xs : List Piece). Ok xs) (sym (append_assoc ps (p ∷ []) qs))
+joined_more ps p (Err f) = refl
+
+-- one more box
+pub box_step : (top : Bool) (at : ℕ) (rest : List ℕ) (h : BoxHead) (front : List Piece) (all : Result (List Piece) BoxFault)
+    → head_of top at rest ≡ Ok h → joined_with front (boxes top at rest) ≡ all → joined_with (front ++ piece_of h rest ∷ []) (boxes top (at + h.size) (drop h.size rest)) ≡ all
+box_step top at rest h front all e w =
+    sym (joined_more front (piece_of h rest) (boxes top (at + h.size) (drop h.size rest))) ∙ ap (joined_with front) (sym (boxes_step top at rest h e)) ∙ w
+
+-- a place that is no whole box
+pub box_wrong : (top : Bool) (at : ℕ) (rest : List ℕ) (f : BoxFault) (front : List Piece) (all : Result (List Piece) BoxFault)
+    → 0 < length rest → head_of top at rest ≡ Err f → joined_with front (boxes top at rest) ≡ all → all ≡ Err f
+box_wrong top at rest f front all some e w = sym w ∙ ap (joined_with front) (boxes_fault top at rest f some e)
+
+-- the end of the bytes
+pub box_end : (top : Bool) (at : ℕ) (rest : List ℕ) (front : List Piece) (all : Result (List Piece) BoxFault)
+    → length rest ≡ 0 → joined_with front (boxes top at rest) ≡ all → all ≡ Ok front
+box_end top at rest front all none w =
+    let nil : rest ≡ [] = nil_from_length rest none in
+    sym w ∙ ap (λ (r : List ℕ). joined_with front (boxes top at r)) nil ∙ ap (joined_with front) (boxes_none top at) ∙ ap (λ (ps : List Piece). Ok ps) (append-nil front)
+
+-- ---- boxes that were written
 
 -- the head of a box that was written
 pub head_of_box : (top : Bool) (at : ℕ) (kind body rest : List ℕ) → length kind ≡ 4 → length body < 2 ^ 32 - 8

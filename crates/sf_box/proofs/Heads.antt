@@ -2,7 +2,7 @@
 use Rattle.std.proofs.Common.{is_err, Option, Some, None, OnOk, ◌≡◌, ℕ, ◌+◌, ◌-◌, ◌<◌, ◌≤◌, min, Bool, true, false, cond, ◌||◌, ltb, ◌==◌, inl, inr, List, [], ◌∷◌, ◌++◌, length, take, drop, Result, Ok, Err, refl, sym, subst, ap, ◌∙◌, append_assoc, arith}
 use Rattle.std.proofs.lemmas.List.{length-drop, take-take, drop-take, drop-drop, map-append}
 use Rattle.std.proofs.lemmas.Bool.{cases_lt}
-use Rattle.std.proofs.lemmas.List.{append-nil}
+use Rattle.std.proofs.lemmas.List.{append-nil, take_all}
 use Rattle.std.proofs.lemmas.List.Elements.{All-append, All-cons, All-nil}
 use Rattle.std.proofs.Math.Seq.{take-length}
 use Rattle.std.specs.Int.{w32, w64, from_be_bytes}
@@ -11,11 +11,11 @@ use Rattle.std.specs.Str.{bytes_eq}
 use Rattle.sf_box.specs.declared.types.BoxHead.{BoxHead}
 use Rattle.sf_box.specs.declared.types.BoxFault.{BoxFault}
 use Rattle.sf_box.specs.declared.types.BoxFault.TheVariants.{Short, Overrun}
-use Rattle.sf_box.specs.Boxes.{word32, word64, Piece, sized, head_in, head_of, with_first, piece_of, boxes, leading}
-use Rattle.sf_box.specs.Reading.{piece_at, pieces_at, Within, Walked, AreHeads, told, first_head, piece_found, FindsPiece}
-use Rattle.sf_box.proofs.Boxes.{chosen, head_takes, boxes_step, boxes_none, boxes_fault}
+use Rattle.sf_box.specs.Boxes.{word32, word64, Piece, sized, head_in, head_of, with_first, joined_with, first_then, piece_of, boxes, leading}
+use Rattle.sf_box.specs.Reading.{piece_at, pieces_at, Within, AreHeads, first_head, piece_found, FindsPiece}
+use Rattle.sf_box.specs.inner.Walks.{Walked, told}
+use Rattle.sf_box.proofs.Boxes.{chosen, head_takes, boxes_step, boxes_none, boxes_fault, joined_more, boxes_by_head}
 use Rattle.sf_box.proofs.LeadingBoxes.{leading_step, leading_none, leading_end}
-use Rattle.sf_box.proofs.Parts.{joined_with}
 
 sized_place : (at room head size : ℕ) (first : List ℕ) (h : BoxHead) → sized at room head size first ≡ Ok h → h.at ≡ at
 sized_place at room head size first h e =
@@ -81,6 +81,28 @@ first_tells top at bytes first e =
           ap (head_in top at (length bytes)) f ∙ same_fields top at (length bytes) (take 16 bytes) bytes (word_first bytes 16 (omega arith)) kind wide
     ]
 
+-- as many first bytes as there are, up to sixteen
+take_some : (bytes : List ℕ) → take 16 bytes ≡ take (min 16 (length bytes)) bytes
+take_some bytes =
+    elim (cases_lt 16 (length bytes)) [
+      | inr few ↦
+          let m : min 16 (length bytes) ≡ length bytes = omega arith in
+          take_all 16 bytes few ∙ sym (take-length bytes) ∙ ap (λ (n : ℕ). take n bytes) (sym m)
+      | inl many ↦
+          let m : min 16 (length bytes) ≡ 16 = omega arith in
+          ap (λ (n : ℕ). take n bytes) (sym m)
+    ]
+
+-- a head that the first bytes tell is the first step along the boxes
+pub step_by_head : (top : Bool) (at room : ℕ) (first : List ℕ) (r : Result BoxHead BoxFault) → 0 < room → r ≡ head_in top at room first
+    → (bytes : List ℕ) → length bytes ≡ room → take 16 bytes ≡ first
+    → boxes top at bytes ≡ first_then r (λ h. with_first (piece_of h bytes) (boxes top (at + h.size) (drop h.size bytes)))
+step_by_head top at room first r some e bytes long begins =
+    let whole : first ≡ take (min 16 (length bytes)) bytes = sym begins ∙ take_some bytes in
+    let head : r ≡ head_of top at bytes = e ∙ ap (λ (n : ℕ). head_in top at n first) (sym long) ∙ first_tells top at bytes first whole in
+    boxes_by_head top at bytes (omega (arith, long, some))
+    ∙ ap (λ (x : Result BoxHead BoxFault). first_then x (λ h. with_first (piece_of h bytes) (boxes top (at + h.size) (drop h.size bytes)))) (sym head)
+
 -- ---- a walk along heads
 
 -- The boxes of the heads so far, then those of the rest, are those of all bytes, for both walks.
@@ -91,10 +113,6 @@ pub record Walk (base : ℕ) (all : List ℕ) (heads : List BoxHead) (at : ℕ) 
   pub rest_is : rest ≡ drop (at - base) all
   pub order : base ≤ at
   pub within : All (Within base all) heads
-
-joined_more : (ps : List Piece) (p : Piece) (r : Result (List Piece) BoxFault) → joined_with ps (with_first p r) ≡ joined_with (ps ++ p ∷ []) r
-joined_more ps p (Ok qs) = ap (λ (xs : List Piece). Ok xs) (sym (append_assoc ps (p ∷ []) qs))
-joined_more ps p (Err f) = refl
 
 joined_none : (r : Result (List Piece) BoxFault) → r ≡ joined_with [] r
 joined_none (Ok qs) = refl

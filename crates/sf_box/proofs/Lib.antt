@@ -4,3 +4,4 @@ pub mod LeadingBoxes
 pub mod Parts
 pub mod Ending
 pub mod Heads
+pub mod BoxLaws

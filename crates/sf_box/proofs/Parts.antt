@@ -4,7 +4,7 @@ use Rattle.std.specs.List.{AllByRecursion}
 use Rattle.std.specs.Str.{bytes_eq}
 use Rattle.std.proofs.lemmas.List.{length-append}
 use Rattle.sf_box.specs.declared.types.BoxFault.{BoxFault}
-use Rattle.sf_box.specs.Boxes.{Piece, box_of, with_first, boxes}
+use Rattle.sf_box.specs.Boxes.{Piece, box_of, with_first, joined_with, boxes}
 use Rattle.sf_box.specs.Parts.{Part, part_of, parts_from, parts, tiled, laid, child, child_piece, Fits}
 use Rattle.sf_box.proofs.Boxes.{boxes_box, boxes_none}
 use Rattle.sf_box.proofs.Numbers.{length-box_of}
@@ -22,11 +22,6 @@ length-tiled-cons p ps k = omega (arith, length-append (box_of p.0 p.1) (tiled p
 pub length-tiled-nil : length (tiled []) ≡ 0
 unfolding tiled
 length-tiled-nil = refl
-
--- boxes that were read in front of others
-abbrev pub joined_with : List Piece → Result (List Piece) BoxFault → Result (List Piece) BoxFault
-joined_with ps (Ok qs) = Ok (ps ++ qs)
-joined_with ps (Err f) = Err f
 
 joined_first : (p : Piece) (ps : List Piece) (r : Result (List Piece) BoxFault) → with_first p (joined_with ps r) ≡ joined_with (p ∷ ps) r
 joined_first p ps (Ok qs) = refl

@@ -53,7 +53,7 @@ sized at room head size first =
     else Ok (record { kind = record { 0 = take 4 (drop 4 first) }; at = at; head = head; size = size })
 
 -- the head that begins with these bytes, with so much room up to the end. The size field 1 means that
--- the size stands in eight bytes behind the type. The size field 0 means up to the end, at the top alone.
+-- the size stands in eight bytes after the type. The size field 0 means up to the end, at the top alone.
 abbrev pub head_in : Bool → ℕ → ℕ → List ℕ → Result BoxHead BoxFault
 head_in top at room first =
     if nat_lt room 8 then Err (Short at)
@@ -77,6 +77,11 @@ pub record Takes (bytes : List ℕ) (h : BoxHead) : Type 0 where
 abbrev pub with_first : {A : Type 0} → A → Result (List A) BoxFault → Result (List A) BoxFault
 with_first x (Ok xs) = Ok (x ∷ xs)
 with_first x (Err e) = Err e
+
+-- with the boxes in front that were met before
+abbrev pub joined_with : List Piece → Result (List Piece) BoxFault → Result (List Piece) BoxFault
+joined_with ps (Ok qs) = Ok (ps ++ qs)
+joined_with ps (Err f) = Err f
 
 -- what follows from a head, where there is one
 abbrev pub first_then : Result BoxHead BoxFault → (BoxHead → Result (List Piece) BoxFault) → Result (List Piece) BoxFault

@@ -1,3 +1,4 @@
 pub mod Boxes
 pub mod Parts
 pub mod Reading
+pub mod inner

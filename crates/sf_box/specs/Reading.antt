@@ -1,13 +1,11 @@
 -- What the calls that read boxes answer.
 use Rattle.std.specs.Prelude.{◌≡◌, ℕ, ◌+◌, ◌-◌, ◌≤◌, false, List, [], ◌∷◌, length, drop, map, Option, Some, None, Result, Ok, Err, if◌then◌else◌, ⊤}
-use Rattle.std.specs.List.{All}
 use Rattle.std.specs.Str.{bytes_eq}
 use Rattle.sf_box.specs.declared.types.BoxHead.{BoxHead}
-use Rattle.sf_box.specs.declared.types.BoxFault.{BoxFault}
 use Rattle.sf_box.specs.declared.types.ChildrenFault.{ChildrenFault}
 use Rattle.sf_box.specs.declared.types.ChildrenFault.TheVariants.{Short, Overrun, NoMemory}
 use Rattle.sf_box.specs.declared.types.BoxFault.TheVariants.{Short as FaultShort, Overrun as FaultOverrun}
-use Rattle.sf_box.specs.Boxes.{Piece, piece_of, boxes, leading}
+use Rattle.sf_box.specs.Boxes.{Piece, piece_of, boxes}
 use Rattle.sf_box.specs.Parts.{child_piece}
 
 -- the box of a head in bytes whose places count from the base
@@ -31,22 +29,6 @@ AreHeads base bytes (Ok heads) = boxes false base bytes ≡ Ok (pieces_at base b
 AreHeads base bytes (Err (Short at)) = boxes false base bytes ≡ Err (FaultShort at)
 AreHeads base bytes (Err (Overrun at size)) = boxes false base bytes ≡ Err (FaultOverrun at size)
 AreHeads base bytes (Err NoMemory) = ⊤
-
--- how the boxes end where a walk along them stopped
-abbrev pub EndsBy : ℕ → List ℕ → List BoxHead → Option BoxFault → Type 0
-EndsBy base bytes heads None = boxes false base bytes ≡ Ok (pieces_at base bytes heads)
-EndsBy base bytes heads (Some f) = boxes false base bytes ≡ Err f
-
--- The heads of a walk and the fault at its end, if there is one.
-pub record Walked (base : ℕ) (bytes : List ℕ) (heads : List BoxHead) (fault : Option BoxFault) : Type 0 where
-  pub leads : leading base bytes ≡ pieces_at base bytes heads
-  pub ends : EndsBy base bytes heads fault
-  pub within : All (Within base bytes) heads
-
--- a fault of a box, told of its holder
-abbrev pub told : BoxFault → ChildrenFault
-told (FaultShort at) = Short at
-told (FaultOverrun at size) = Overrun at size
 
 -- the first head of a type
 abbrev pub first_head : List BoxHead → List ℕ → Option BoxHead

@@ -6,10 +6,15 @@
 //! the boxes that tile some bytes, or the first fault, and `leading` those up to the first fault.
 #![tactic(auto)]
 
+mod laws;
 mod reading;
 mod types;
 mod writing;
 
+pub use laws::{
+    all_are_leading, box_read_back, boxes_by_steps, boxes_met, leading_by_steps, numbers_read_back,
+    tiled_read_back, written_lengths,
+};
 pub use reading::{
     body, children, first_head, leading, next_head, read_head, read_u16, read_u32, read_u64,
 };

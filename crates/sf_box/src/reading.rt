@@ -1,7 +1,8 @@
-ghost use Rattle.std.specs.Prelude.{◌≡◌, ℕ, ◌+◌, ◌-◌, ◌^◌, ◌≤◌, ◌<◌, min, Bool, false, List, length, drop, IfOk, IfSome};
+ghost use Rattle.std.specs.Prelude.{◌≡◌, ℕ, ◌+◌, ◌-◌, ◌^◌, ◌≤◌, ◌<◌, min, Bool, false, List, length, take, drop, IfOk, IfSome};
 ghost use Rattle.std.specs.List.{All, Contains};
-ghost use Rattle.sf_box.specs.Boxes.{word16, word32, word64, sized, Takes, head_in, head_of, leading};
-ghost use Rattle.sf_box.specs.Reading.{piece_at, pieces_at, Within, Walked, AreHeads, told, first_head, FindsPiece};
+ghost use Rattle.sf_box.specs.Boxes.{word16, word32, word64, sized, Takes, head_in, head_of, first_then, with_first, piece_of, boxes, leading};
+ghost use Rattle.sf_box.specs.Reading.{piece_at, pieces_at, Within, AreHeads, first_head, FindsPiece};
+ghost use Rattle.sf_box.specs.inner.Walks.{Walked, told};
 
 use crate::types::{BoxFault, BoxHead, ChildrenFault, FourCc, Heads};
 use byteorder::{BigEndian, ByteOrder};
@@ -50,9 +51,9 @@ fn sized(first: &[u8], at: u64, room: u64, head: u64, size: u64) -> Result<BoxHe
     })
 }
 
-/// The head that begins with the first bytes at a place. The size 0 means up to the end, at the top alone.
+// The head that begins with the first bytes at a place.
 #[tactic(auto, unfolding(crate::specs::Boxes::word32, crate::specs::Boxes::word64))]
-pub fn read_head(first: &[u8], at: u64, end: u64, top: bool) -> Result<BoxHead, BoxFault>
+fn head_in(first: &[u8], at: u64, end: u64, top: bool) -> Result<BoxHead, BoxFault>
     requires order { at < end }
     requires first { length first.now ≡ min 16 (end - at) }
     ensures { result ≡ head_in top at (end - at) first.now }
@@ -77,6 +78,18 @@ pub fn read_head(first: &[u8], at: u64, end: u64, top: bool) -> Result<BoxHead, 
         }
         size => sized(first, at, room, 8, u64::from(size)),
     }
+}
+
+/// The head that begins with the first bytes at a place, which is the first step along the boxes up to the
+/// end. The size 0 means up to the end, at the top alone.
+pub fn read_head(first: &[u8], at: u64, end: u64, top: bool) -> Result<BoxHead, BoxFault>
+    requires order { at < end }
+    requires first { length first.now ≡ min 16 (end - at) }
+    ensures head { result ≡ head_in top at (end - at) first.now }
+    ensures step { (bytes : List ℕ) → length bytes ≡ end - at → take 16 bytes ≡ first.now
+        → boxes top at bytes ≡ first_then result (λ h. with_first (piece_of h bytes) (boxes top (at + h.size) (drop h.size bytes))) }
+{
+    head_in(first, at, end, top)
 }
 
 /// The head of the box that begins bytes which stand at a place and reach to the end of their holder,

@@ -5,3 +5,4 @@ pub mod Plain
 pub mod ProperLists
 pub mod Standing
 pub mod Tails
+pub mod GatherLaws

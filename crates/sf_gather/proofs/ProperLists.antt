@@ -4,13 +4,14 @@ use Rattle.std.specs.List.{AllByRecursion}
 use Rattle.std.proofs.lemmas.Bool.Decides.{nat_tests}
 use Rattle.std.proofs.lemmas.List.{length-append}
 use Rattle.std.proofs.lemmas.List.Sums.{sum_by_push}
+use Rattle.sf_tick.specs.Samples.{samples_of}
 use Rattle.sf_tick.specs.declared.types.Stored.{Stored}
 use Rattle.sf_tick.specs.declared.types.Chunk.{Chunk}
 use Rattle.sf_gather.specs.declared.given.Given.{Given}
 use Rattle.sf_gather.specs.declared.given.LastSample.{LastSample}
 use Rattle.sf_gather.specs.Accepting.{kept_of}
 use Rattle.sf_gather.specs.Chunks.{size_of, belongs, chunk_of, chunks_from, chunks, marked}
-use Rattle.sf_gather.specs.Proper.{AllFollow, IsChunk, AreChunks, OnlyLastMarked, samples_of, Proper}
+use Rattle.sf_gather.specs.Proper.{AllFollow, IsChunk, AreChunks, OnlyLastMarked, Proper}
 use Rattle.sf_gather.proofs.Growing.{closed_from, open_from, chunks_split}
 
 joined_if : (b : Bool) (h : Chunk) (a c : List Chunk) (all : List Stored) → samples_of a ≡ all → h.samples ++ samples_of c ≡ all → samples_of (cond b a (h ∷ c)) ≡ all

@@ -1,9 +1,10 @@
 -- Proper lists cut in two, and made longer by a chunk.
 use Rattle.std.proofs.Common.{◌≡◌, ℕ, ◌+◌, false, List, [], ◌∷◌, ◌++◌, length, None, refl, ap, ◌∙◌, append-nil, arith}
 use Rattle.std.proofs.lemmas.List.Concat.{flat_map-append}
+use Rattle.sf_tick.specs.Samples.{samples_of}
 use Rattle.sf_tick.specs.declared.types.Stored.{Stored}
 use Rattle.sf_tick.specs.declared.types.Chunk.{Chunk}
-use Rattle.sf_gather.specs.Proper.{AllFollow, IsChunk, AreChunks, OnlyLastMarked, samples_of, Proper, ends_marked, tail_of, Extends}
+use Rattle.sf_gather.specs.Proper.{AllFollow, IsChunk, AreChunks, OnlyLastMarked, Proper, ends_marked, tail_of, Extends}
 use Rattle.sf_gather.proofs.Accepted.{follow_append, append_follows}
 
 samples_append : (cs ds : List Chunk) → samples_of (cs ++ ds) ≡ samples_of cs ++ samples_of ds

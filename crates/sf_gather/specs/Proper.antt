@@ -1,7 +1,7 @@
 -- Proper lists of chunks: those that a track's files can hold.
 use Rattle.std.specs.Prelude.{◌≡◌, ℕ, ◌+◌, ◌^◌, ◌<◌, ◌≤◌, Bool, false, List, [], ◌∷◌, length, Option, Some, None, IfSome, IsTrue}
-use Rattle.std.specs.List.{flat_map}
 use Rattle.sf_tick.specs.Tick.{tick}
+pub use Rattle.sf_tick.specs.Samples.{samples_of}
 use Rattle.sf_tick.specs.declared.types.Stored.{Stored}
 use Rattle.sf_tick.specs.declared.types.Chunk.{Chunk}
 use Rattle.sf_gather.specs.declared.given.LastSample.{LastSample}
@@ -42,10 +42,6 @@ abbrev pub OnlyLastMarked : List Chunk → Type 0
 OnlyLastMarked [] = Unit {0}
 OnlyLastMarked (chunk ∷ []) = Unit {0}
 OnlyLastMarked (chunk ∷ next ∷ chunks) = (chunk.last ≡ false) × OnlyLastMarked (next ∷ chunks)
-
--- the samples of all chunks
-abbrev pub samples_of : List Chunk → List Stored
-samples_of chunks = flat_map (λ c. c.samples) chunks
 
 -- A list of chunks of one track that can be written.
 pub record Proper (track scale : ℕ) (chunks : List Chunk) : Type 0 where

@@ -1,13 +1,15 @@
-//! What holds of chunks, over lists alone.
+//! What holds of samples and chunks, over lists alone. The crates above build on these laws.
 
-ghost use Rattle.std.specs.Prelude.{◌≡◌, ℕ, ◌+◌, true, false, None, List, [], ◌∷◌, ◌++◌, length, IsSome};
+ghost use Rattle.std.specs.Prelude.{◌≡◌, ℕ, ◌+◌, true, false, Option, None, List, [], ◌∷◌, ◌++◌, length, IsSome};
+ghost use Rattle.sf_tick.specs.Samples.{samples_of};
 ghost use Rattle.sf_tick.specs.declared.types.Stored.{Stored};
 ghost use Rattle.sf_tick.specs.declared.types.Chunk.{Chunk};
 ghost use Rattle.std.specs.List.{AllByRecursion};
 ghost use Rattle.sf_tick.specs.declared.types.Sample.{Sample};
-ghost use Rattle.sf_gather.specs.Accepting.{IsSized, last_of, plain, refusal, stored_of};
+ghost use Rattle.sf_gather.specs.declared.given.LastSample.{LastSample};
+ghost use Rattle.sf_gather.specs.Accepting.{IsSized, last_from, last_of, plain, refusal, stored_of};
 ghost use Rattle.sf_gather.specs.Chunks.{belongs, chunk_of, chunks, chunks_from, closed, front};
-ghost use Rattle.sf_gather.specs.Proper.{AllFollow, Extends, Proper, samples_of, tail_of};
+ghost use Rattle.sf_gather.specs.Proper.{AllFollow, Extends, Proper, tail_of};
 
 use super::given::Given;
 
@@ -52,6 +54,7 @@ pub fn accepted_samples(given: Given)
 /// A law: the chunks of accepted samples hold these in order, and are proper.
 pub fn proper_chunks(given: Given)
     ensures samples { (samples : List Stored) → samples_of (chunks given samples) ≡ samples }
+    ensures front { (number : ℕ) (so_far samples : List Stored) → samples_of (chunks_from given number so_far samples) ≡ so_far ++ samples }
     ensures proper { (samples : List Stored) → AllFollow given.scale None samples → Proper given.track given.scale (chunks given samples) }
 {}
 
@@ -62,4 +65,15 @@ pub fn proper_by_tail(track: u32, scale: u32)
     ensures only { (chunks : List Chunk) (next : Chunk) → Proper track scale (chunks ++ next ∷ []) → Extends track scale (tail_of chunks) next }
     ensures enough { (chunks : List Chunk) (next : Chunk) → Proper track scale chunks → Extends track scale (tail_of chunks) next
         → Proper track scale (chunks ++ next ∷ []) }
+{}
+
+/// A law: two lists of samples follow one after the other where the first follows an earlier last sample
+/// and the second follows the last of the first.
+#[tactic(auto, using(crate::proofs::GatherLaws::follow_laws))]
+pub fn following_samples(scale: u32)
+    ensures apart { (last : Option LastSample) (xs ys : List Stored) → AllFollow scale last (xs ++ ys)
+        → AllFollow scale last xs × AllFollow scale (last_from last xs) ys }
+    ensures together { (last : Option LastSample) (xs ys : List Stored) → AllFollow scale last xs → AllFollow scale (last_from last xs) ys
+        → AllFollow scale last (xs ++ ys) }
+    ensures last { (last : Option LastSample) (xs ys : List Stored) → last_from last (xs ++ ys) ≡ last_from (last_from last xs) ys }
 {}

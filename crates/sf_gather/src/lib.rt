@@ -14,8 +14,8 @@ pub use accepting::SampleFault;
 pub use gather::Gather;
 pub use given::{Given, LastSample, Options};
 pub use laws::{
-    accepted_samples, closed_chunks_stay, longest_front, one_more_sample, proper_by_tail,
-    proper_chunks,
+    accepted_samples, closed_chunks_stay, following_samples, longest_front, one_more_sample,
+    proper_by_tail, proper_chunks,
 };
 
 #[cfg(test)]

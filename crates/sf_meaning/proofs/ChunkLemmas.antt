@@ -1,5 +1,5 @@
 -- Chunks of stored samples that stand one after the other in a file, as rows of its tables.
-use Rattle.std.proofs.Common.{◌≡◌, ℕ, pos, ◌+ℤ◌, ◌-ℤ◌, ◌+◌, ◌-◌, ◌*◌, ◌^◌, ◌<◌, ◌≤◌, List, [], ◌∷◌, ◌++◌, length, take, drop, map, Ok, refl, subst, sym, ap, ◌∙◌, append_assoc, arith}
+use Rattle.std.proofs.Common.{◌≡◌, ℕ, suc, pos, ◌+ℤ◌, ◌-ℤ◌, ◌+◌, ◌-◌, ◌*◌, ◌^◌, ◌<◌, ◌≤◌, List, [], ◌∷◌, ◌++◌, length, take, drop, map, Ok, refl, subst, sym, ap, ◌∙◌, append_assoc, arith}
 use Rattle.std.specs.List.{AllByRecursion}
 use Rattle.std.proofs.lemmas.List.{map-append, length-append, length-map, drop-drop, take_at, drop_at}
 use Rattle.std.proofs.lemmas.List.Concat.{flat_map-append}
@@ -9,15 +9,16 @@ use Rattle.std.proofs.Math.Nat.{mul-le-mul_left}
 use Rattle.sf_tick.specs.Tick.{tick}
 use Rattle.sf_tick.specs.declared.types.Stored.{Stored}
 use Rattle.sf_tick.specs.declared.types.Chunk.{Chunk}
-use Rattle.sf_meaning.specs.Joined.{Held, later}
+use Rattle.sf_meaning.specs.Joined.{Held, held_in_file, later}
+use Rattle.sf_meaning.specs.Groups.{Group, group_of, cut}
+use Rattle.sf_meaning.specs.Written.{samples_at, listed, held_since, groups_from}
 use Rattle.sf_meaning.specs.Movie.{held_in}
-use Rattle.sf_meaning.specs.Stbl.{Timed, timed_of, ticks_of, places_in_rows, duration_in_rows}
+use Rattle.sf_meaning.specs.Stbl.{Timed, timed_of, ticks_of, places_in_rows, counts_in_rows, duration_in_rows}
 use Rattle.sf_meaning.specs.Layout.{samples_of, stored_bytes, decodes_of, held_as, timed, rows_from, rows_of, first_dts}
 use Rattle.sf_meaning.specs.Writable.{IsWritable, PacedFrom, Writable}
 use Rattle.sf_meaning.specs.declared.movie.PlainSample.{PlainSample}
 use Rattle.sf_meaning.proofs.ListLemmas.{all_front, all_behind}
 use Rattle.sf_meaning.proofs.TableLemmas.{Wide}
-use Rattle.sf_meaning.proofs.RowLemmas.{samples_at, listed}
 use Rattle.sf_meaning.proofs.TablesRead.{Sized, Tellable}
 
 stored-append : (ss ts : List Stored) → stored_bytes (ss ++ ts) ≡ stored_bytes ss ++ stored_bytes ts
@@ -87,40 +88,76 @@ chunks_held bytes track base at (c ∷ cs) le all i =
     chunk_held bytes track base at c.samples (listed base (rows_from (at + length (stored_bytes c.samples)) cs)) (omega (arith, le, long)) (all_front IsWritable c.samples (samples_of cs) all)
     (chunks_held bytes track base (at + length (stored_bytes c.samples)) cs (omega (arith, le, long)) (all_behind IsWritable c.samples (samples_of cs) all)) i
 
--- listed samples with their bytes, so many ticks later
-abbrev pub shown : List ℕ → ℕ → List PlainSample → List Held
-shown file by samples = later by (map (λ s. record { decode = s.decode; compose = s.compose; sync = s.sync; bytes = take s.size (drop s.place file) }) samples)
+-- listed samples with their bytes
+abbrev pub with_bytes : List ℕ → List PlainSample → List Held
+with_bytes file samples = map (held_in_file file) samples
 
-shown-append : (file : List ℕ) (by : ℕ) (xs ys : List PlainSample) → shown file by (xs ++ ys) ≡ shown file by xs ++ shown file by ys
-shown-append file by [] ys = refl
-shown-append file by (x ∷ xs) ys =
-    ap (λ (hs : List Held). record { decode = x.decode + by; compose = x.compose +ℤ pos by; sync = x.sync; bytes = take x.size (drop x.place file) } ∷ hs) (shown-append file by xs ys)
+-- what stands in front of the rest of a file's samples
+chunk_front : (file : List ℕ) (at : ℕ) (c : Chunk) (cs : List Chunk) (rest : List ℕ) → drop at file ≡ stored_bytes (samples_of (c ∷ cs)) ++ rest
+    → drop at file ≡ stored_bytes c.samples ++ (stored_bytes (samples_of cs) ++ rest)
+chunk_front file at c cs rest e =
+    e ∙ ap (λ (b : List ℕ). b ++ rest) (stored-append c.samples (samples_of cs)) ∙ append_assoc (stored_bytes c.samples) (stored_bytes (samples_of cs)) rest
 
-chunk_shown : (file : List ℕ) (by place : ℕ) (ss : List Stored) (rest : List ℕ) → drop place file ≡ stored_bytes ss ++ rest → AllByRecursion (λ s. by ≤ s.decode) (map timed ss)
-    → shown file by (samples_at by place (map timed ss)) ≡ map held_as ss
-chunk_shown file by place [] rest e above = refl
-chunk_shown file by place (s ∷ ss) rest e above =
+chunk_behind : (file : List ℕ) (at : ℕ) (c : Chunk) (cs : List Chunk) (rest : List ℕ) → drop at file ≡ stored_bytes (samples_of (c ∷ cs)) ++ rest
+    → drop (at + length (stored_bytes c.samples)) file ≡ stored_bytes (samples_of cs) ++ rest
+chunk_behind file at c cs rest e =
+    let n : ℕ = length (stored_bytes c.samples) in
+    sym (drop-drop n at file) ∙ ap (drop n) (chunk_front file at c cs rest e) ∙ drop_at (stored_bytes c.samples) (stored_bytes (samples_of cs) ++ rest) n refl
+
+chunk_shown : (file : List ℕ) (base place : ℕ) (ss : List Stored) (rest : List ℕ) → drop place file ≡ stored_bytes ss ++ rest
+    → with_bytes file (samples_at base place (map timed ss)) ≡ map (held_since base) ss
+chunk_shown file base place [] rest e = refl
+chunk_shown file base place (s ∷ ss) rest e =
     let front : drop place file ≡ s.bytes ++ (stored_bytes ss ++ rest) = e ∙ append_assoc s.bytes (stored_bytes ss) rest in
     let first : take (length s.bytes) (drop place file) ≡ s.bytes = ap (take (length s.bytes)) front ∙ take_at s.bytes (stored_bytes ss ++ rest) (length s.bytes) refl in
     let behind : drop (place + length s.bytes) file ≡ stored_bytes ss ++ rest =
     sym (drop-drop (length s.bytes) place file) ∙ ap (drop (length s.bytes)) front ∙ drop_at s.bytes (stored_bytes ss ++ rest) (length s.bytes) refl in
-    let decode : s.decode - by + by ≡ s.decode = omega (arith, above.0) in
-    let compose : (pos s.compose -ℤ pos by) +ℤ pos by ≡ pos s.compose = omega (arith, ints) in
-    rw (first, decode, compose) (ap (λ (hs : List Held). held_as s ∷ hs) (chunk_shown file by (place + length s.bytes) ss rest behind above.1))
+    rw first (ap (λ (hs : List Held). held_since base s ∷ hs) (chunk_shown file base (place + length s.bytes) ss rest behind))
 
 -- the samples of chunks that stand in a file are the stored ones, each once, in order
-pub chunks_shown : (file : List ℕ) (by at : ℕ) (chunks : List Chunk) (rest : List ℕ) → drop at file ≡ stored_bytes (samples_of chunks) ++ rest
-    → AllByRecursion (λ s. by ≤ s.decode) (timed_of (rows_from at chunks)) → shown file by (listed by (rows_from at chunks)) ≡ map held_as (samples_of chunks)
-chunks_shown file by at [] rest e above = refl
-chunks_shown file by at (c ∷ cs) rest e above =
-    let ss : List Stored = c.samples in
-    let next : ℕ = at + length (stored_bytes ss) in
-    let more : List ℕ = stored_bytes (samples_of cs) ++ rest in
-    let front : drop at file ≡ stored_bytes ss ++ more =
-    e ∙ ap (λ (b : List ℕ). b ++ rest) (stored-append ss (samples_of cs)) ∙ append_assoc (stored_bytes ss) (stored_bytes (samples_of cs)) rest in
-    let behind : drop next file ≡ more =
-    sym (drop-drop (length (stored_bytes ss)) at file) ∙ ap (drop (length (stored_bytes ss))) front ∙ drop_at (stored_bytes ss) more (length (stored_bytes ss)) refl in
-    shown-append file by (samples_at by at (map timed ss)) (listed by (rows_from next cs))
-    ∙ ap (λ (hs : List Held). hs ++ shown file by (listed by (rows_from next cs))) (chunk_shown file by at ss more front (all_front (λ (s : Timed). by ≤ s.decode) (map timed ss) (timed_of (rows_from next cs)) above))
-    ∙ ap (λ (hs : List Held). map held_as ss ++ hs) (chunks_shown file by next cs rest behind (all_behind (λ (s : Timed). by ≤ s.decode) (map timed ss) (timed_of (rows_from next cs)) above))
-    ∙ sym (map-append held_as ss (samples_of cs))
+pub chunks_shown : (file : List ℕ) (base at : ℕ) (chunks : List Chunk) (rest : List ℕ) → drop at file ≡ stored_bytes (samples_of chunks) ++ rest
+    → with_bytes file (listed base (rows_from at chunks)) ≡ map (held_since base) (samples_of chunks)
+chunks_shown file base at [] rest e = refl
+chunks_shown file base at (c ∷ cs) rest e =
+    let next : ℕ = at + length (stored_bytes c.samples) in
+    map-append (held_in_file file) (samples_at base at (map timed c.samples)) (listed base (rows_from next cs))
+    ∙ ap (λ (hs : List Held). hs ++ with_bytes file (listed base (rows_from next cs))) (chunk_shown file base at c.samples (stored_bytes (samples_of cs) ++ rest) (chunk_front file at c cs rest e))
+    ∙ ap (λ (hs : List Held). map (held_since base) c.samples ++ hs) (chunks_shown file base next cs rest (chunk_behind file at c cs rest e))
+    ∙ sym (map-append (held_since base) c.samples (samples_of cs))
+
+-- times from the series' start
+pub since_start : (by : ℕ) (ss : List Stored) → AllByRecursion (λ s. by ≤ s.decode) (map timed ss) → later by (map (held_since by) ss) ≡ map held_as ss
+since_start by [] above = refl
+since_start by (s ∷ ss) above =
+    let decode : s.decode - by + by ≡ s.decode = omega (arith, above.0) in
+    let compose : (pos s.compose -ℤ pos by) +ℤ pos by ≡ pos s.compose = omega (arith, ints) in
+    rw (decode, compose) (ap (λ (hs : List Held). held_as s ∷ hs) (since_start by ss above.1))
+
+length-samples_at : (base place : ℕ) (ss : List Timed) → length (samples_at base place ss) ≡ length ss
+length-samples_at base place [] = refl
+length-samples_at base place (s ∷ ss) = ap suc (length-samples_at base (place + s.size) ss)
+
+-- a chunk that isn't empty makes a group
+group_is : (file : List ℕ) (base place : ℕ) (ss : List Stored) (rest : List ℕ) → 0 < length ss → drop place file ≡ stored_bytes ss ++ rest
+    → group_of file (samples_at base place (map timed ss)) ≡ record { place = place; samples = map (held_since base) ss } ∷ []
+group_is file base place [] rest some e = absurd (omega (arith, some))
+group_is file base place (s ∷ ss) rest some e =
+    ap (λ (hs : List Held). let g : Group = record { place = place; samples = hs } in g ∷ []) (chunk_shown file base place (s ∷ ss) rest e)
+
+-- the samples of chunks that stand in a file, cut where the chunk changes
+pub chunks_cut : (file : List ℕ) (base at : ℕ) (chunks : List Chunk) (rest : List ℕ) → AllByRecursion (λ c. 0 < length c.samples) chunks
+    → drop at file ≡ stored_bytes (samples_of chunks) ++ rest
+    → cut file (counts_in_rows (rows_from at chunks)) (listed base (rows_from at chunks)) ≡ groups_from base at chunks
+chunks_cut file base at [] rest filled e = refl
+chunks_cut file base at (c ∷ cs) rest filled e =
+    let next : ℕ = at + length (stored_bytes c.samples) in
+    let first : List PlainSample = samples_at base at (map timed c.samples) in
+    let more : List PlainSample = listed base (rows_from next cs) in
+    let n : length first ≡ length (map timed c.samples) = length-samples_at base at (map timed c.samples) in
+    rw (
+      take_at first more (length (map timed c.samples)) n,
+      drop_at first more (length (map timed c.samples)) n,
+      group_is file base at c.samples (stored_bytes (samples_of cs) ++ rest) filled.0 (chunk_front file at c cs rest e),
+    )
+    (ap (λ (gs : List Group). let g : Group = record { place = at; samples = map (held_since base) c.samples } in g ∷ gs)
+    (chunks_cut file base next cs rest filled.1 (chunk_behind file at c cs rest e)))

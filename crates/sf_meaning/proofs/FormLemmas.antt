@@ -8,8 +8,7 @@ use Rattle.sf_box.specs.Boxes.{Piece, box_of}
 use Rattle.sf_box.specs.declared.types.BoxHead.{BoxHead}
 use Rattle.sf_box.specs.declared.types.BoxFault.{BoxFault}
 use Rattle.sf_box.specs.Parts.{Part, tiled, Fits}
-use Rattle.sf_box.proofs.Boxes.{head_of_box, box_body}
-use Rattle.sf_box.proofs.Numbers.{length-box_of}
+use Rattle.sf_box.proofs.BoxLaws.{head_of_box, box_body, length-box_of}
 use Rattle.sf_meaning.specs.declared.faults.MovieFault.{MovieFault}
 use Rattle.sf_meaning.specs.Form.{Expected, box_here, next_box, expected_box, behind_optional, nothing_left, in_order, in_tables, holds, is_places, places_form, sizes_form, tables_form}
 

@@ -6,9 +6,13 @@ pub mod RowLemmas
 pub mod FormLemmas
 pub mod TablesRead
 pub mod ChunkLemmas
+pub mod MovieParts
 pub mod ReadBack
 pub mod EntryLemmas
 pub mod ListedSamples
 pub mod SampleLemmas
 pub mod Tracks
 pub mod WholeFile
+pub mod SamplePlaces
+pub mod SampleAt
+pub mod MeaningLaws

@@ -1,6 +1,6 @@
 -- The samples that the tables of rows list.
 use Rattle.std.proofs.Common.{◌≡◌, ℕ, ℤ, pos, ◌+ℤ◌, ◌-ℤ◌, ◌+◌, ◌-◌, ◌^◌, ◌<◌, ◌≤◌, List, [], ◌∷◌, ◌++◌, length, drop, map, sum, get_or, replicate, Option, refl, sym, ap, ◌∙◌, arith, lit<}
-use Rattle.std.specs.List.{AllByRecursion, flat_map}
+use Rattle.std.specs.List.{AllByRecursion}
 use Rattle.std.proofs.lemmas.List.{map-append, length-append, length-map, take_at, drop_at}
 use Rattle.std.proofs.lemmas.List.Sums.{sum_by-cons}
 use Rattle.std.proofs.lemmas.Int.{ints}
@@ -8,23 +8,10 @@ use Rattle.sf_meaning.specs.Tables.{running, placed}
 use Rattle.sf_meaning.specs.Movie.{rows}
 use Rattle.sf_meaning.specs.Stbl.{Timed, Row, timed_of, sizes_in_rows, counts_in_rows, places_in_rows, deltas_of}
 use Rattle.sf_meaning.specs.Writable.{Paced, PacedFrom}
+use Rattle.sf_meaning.specs.Written.{sample_of, samples_at, listed}
 use Rattle.sf_meaning.specs.declared.movie.PlainSample.{PlainSample}
 use Rattle.sf_meaning.proofs.TableLemmas.{Word, differences_words, length-differences, running_differences}
 use Rattle.sf_meaning.proofs.TimedLemmas.{Offsets, Syncs}
-
--- a sample at a place, as it is read where ticks count from a base
-abbrev pub sample_of : ℕ → ℕ → Timed → PlainSample
-sample_of base place s =
-    record { decode = s.decode - base; compose = pos s.compose -ℤ pos base; sync = s.sync; place = place; size = s.size; description = 1 }
-
--- the samples of a chunk, one after the other
-abbrev pub samples_at : ℕ → ℕ → List Timed → List PlainSample
-samples_at base place [] = []
-samples_at base place (s ∷ ss) = sample_of base place s ∷ samples_at base (place + s.size) ss
-
--- the samples of the chunks of a track
-abbrev pub listed : ℕ → List Row → List PlainSample
-listed base rows = flat_map (λ r. samples_at base r.place r.samples) rows
 
 abbrev pub zipped : ℕ → List Timed → List ℕ → List PlainSample
 zipped base [] places = []

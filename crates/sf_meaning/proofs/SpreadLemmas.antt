@@ -6,7 +6,7 @@ use Rattle.std.proofs.lemmas.List.Sums.{sum_by-cons}
 use Rattle.std.proofs.lemmas.Bool.{lt-ltb, ne_eqb}
 use Rattle.std.proofs.lemmas.Bool.Decides.{eqb_tells}
 use Rattle.sf_box.specs.Boxes.{be32}
-use Rattle.sf_box.proofs.Numbers.{word32_of, drop_word, length-be32}
+use Rattle.sf_box.proofs.BoxLaws.{word32_of, drop_word, length-be32}
 use Rattle.sf_meaning.specs.Tables.{Spread, InChunk, in_chunk, spreads, spread_over, chunk_entries, described, rising, count_in, spreads_in}
 use Rattle.sf_meaning.specs.Stbl.{spread_from, spread_bytes, stsc_body}
 use Rattle.sf_meaning.specs.Movie.{begins_rising}

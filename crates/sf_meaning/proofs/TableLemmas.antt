@@ -5,7 +5,7 @@ use Rattle.std.proofs.lemmas.List.{append-nil, length-append, drop-drop}
 use Rattle.std.proofs.lemmas.Bool.{ne_eqb}
 use Rattle.std.proofs.lemmas.Bool.Decides.{eqb_tells}
 use Rattle.sf_box.specs.Boxes.{be32, be64, word32}
-use Rattle.sf_box.proofs.Numbers.{word32_of, word64_of, drop_word, drop_wide, length-be32, length-be64}
+use Rattle.sf_box.proofs.BoxLaws.{word32_of, word64_of, drop_word, drop_wide, length-be32, length-be64}
 use Rattle.sf_meaning.specs.Tables.{words, wide_words, run_pairs, expand, running, offset_in, offsets_in, sync_numbers_in, count_in, deltas_in, places_in, sample_count, sizes_in}
 use Rattle.sf_meaning.specs.Stbl.{zeros, in_front, runs_of, differences, uniform, run_bytes, stts_body, ctts_body, stss_body, stsz_body, stco_body, co64_body}
 use Rattle.sf_meaning.specs.Writable.{Paced}

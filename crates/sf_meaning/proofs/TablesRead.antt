@@ -8,18 +8,20 @@ use Rattle.std.proofs.lemmas.Bool.{le-leb, ltb-true}
 use Rattle.sf_box.specs.Boxes.{Piece, word32}
 use Rattle.sf_box.specs.Parts.{Part, tiled, laid, Fits, child_piece}
 use Rattle.sf_box.specs.declared.types.BoxHead.{BoxHead}
-use Rattle.sf_box.proofs.Parts.{laid-append}
+use Rattle.sf_box.proofs.BoxLaws.{laid-append}
 use Rattle.sf_meaning.specs.Tables.{offset_in, running, rising, placed, count_in, deltas_in, spreads_in, places_in, sample_count, sizes_in, described, chunk_entries}
 use Rattle.sf_meaning.specs.Movie.{Tables, counted, spread_in_order, sizes_whole, descriptions_known, rows, is_wide, samples_said, samples_in, samples_held, held_in, times_table, offsets_told, chunks_table, sizes_table, places_table, sync_told, tables_told, tables_in}
 use Rattle.sf_meaning.specs.Stbl.{Timed, Row, timed_of, ticks_of, sizes_in_rows, counts_in_rows, places_in_rows, duration_in_rows, runs_of, deltas_of, uniform, spread_from, offset_words, all_in_time, all_sync, sync_numbers, all_near, stts_body, ctts_body, stss_body, stsz_body, stsc_body, stco_body, co64_body, stsd_body, ctts_parts, stss_parts, places_part, stbl_parts}
 use Rattle.sf_meaning.specs.Writable.{PacedFrom}
+use Rattle.sf_meaning.specs.Groups.{counts_of}
+use Rattle.sf_meaning.specs.Written.{listed}
 use Rattle.sf_meaning.specs.declared.movie.PlainSample.{PlainSample}
 use Rattle.sf_meaning.proofs.FormLemmas.{part_at}
 use Rattle.sf_meaning.proofs.ListLemmas.{bool_tells, both_true, all_front, all_behind}
 use Rattle.sf_meaning.proofs.TableLemmas.{Word, Wide, words_are, deltas_back, count_in-stts, length-stts, offsets_back, count_in-ctts, length-ctts, sync_numbers_back, count_in-stss, length-stss, places_back, count_in-stco, length-stco, wide_places_back, count_in-co64, length-co64, sizes_back, sample_count_back, length-stsz, length-stsz_each, uniform_back}
 use Rattle.sf_meaning.proofs.SpreadLemmas.{spreads_back, count_in-stsc, length-stsc, length-spread_from, spread_words, SpreadBack, spread_back, begins_rising_back}
 use Rattle.sf_meaning.proofs.TimedLemmas.{Near, version_of, told_offsets, offsets_are, offset_words_fit, told_sync, syncs_are, sync_rising, sync_words, length-sync_from}
-use Rattle.sf_meaning.proofs.RowLemmas.{listed, rows_zipped, zipped_rows, length-deltas_of, deltas_words, ticks_back, from_start, sum-counts, rows_few, counts_filled, counts_words}
+use Rattle.sf_meaning.proofs.RowLemmas.{rows_zipped, zipped_rows, length-deltas_of, deltas_words, ticks_back, from_start, sum-counts, rows_few, counts_filled, counts_words}
 
 -- a sample that the tables can say
 pub record Sized (s : Timed) : Type 0 where
@@ -208,7 +210,18 @@ samples_read scale base a b c d rs t =
     rw (read_sizes, read.same, deltas, spreads_are counts k.counts, count, many, timed, whole, early, back.counts_are, held, named, all, known_first (part_at b (codes "stsc", stsc_body counts)) n)
     (ap (λ (xs : List PlainSample). Ok xs) listed_so)
 
--- the first box of a type among others of which one may lack
+-- how many samples each chunk has
+pub counts_told : (scale base a b c d : ℕ) (rs : List Row) → Tellable scale base rs → counts_of (told a b c d rs) ≡ counts_in_rows rs
+counts_told scale base a b c d rs t =
+    let k : Known scale rs = known_of scale base rs t in
+    let counts : List ℕ = counts_in_rows rs in
+    let places : List ℕ = places_in_rows rs in
+    let back : SpreadBack counts (chunk_entries (spread_from 1 0 counts) (length counts)) = spread_back counts k.counts.filled in
+    let read : PlacesRead d places = places_read d places (omega (arith, k.places_many, k.counts.few)) t.places in
+    let many : count_in (places_part places).1 ≡ length counts = read.count ∙ k.places_many in
+    rw (spreads_are counts k.counts, many) back.counts_are
+
+-- the first box of a type among others of which one may be missing
 skip_optional : (lacks : Bool) (at : ℕ) (p : Part) (rest : List Piece) (kind : List ℕ) → bytes_eq p.0 kind ≡ false
     → child_piece (laid at (cond lacks [] (p ∷ [])) ++ rest) kind ≡ child_piece rest kind
 skip_optional true at p rest kind e = refl
@@ -291,11 +304,17 @@ told_read scale base a b c d e f g entry stbl rs t =
     ∙ stss_told (all_sync ss) d (sync_numbers ss) (omega (arith, length-sync_from 1 ss, k.few)) (sync_words 1 ss (omega (arith, k.few))) (sync_rising 0 1 ss (omega arith)) in
     rw (times, offsets, chunks, sizes, found, sync) refl
 
--- The tables of chunks that the tables can say are read back as their samples, in a file that holds these.
-pub tables_read : (bytes number scale base at : ℕ) (entry : List ℕ) (stbl : Piece) (rs : List Row) → Tellable scale base rs → AllByRecursion Fits (stbl_parts entry rs)
-    → held_in bytes number 0 (listed base rs) ≡ Ok tt → tables_in bytes number scale 1 stbl (laid at (stbl_parts entry rs)) ≡ Ok (listed base rs)
-unfolding tables_in samples_held
-tables_read bytes number scale base at entry stbl rs t fits held =
+-- The tables of such chunks, as they are read from the boxes of a sample table box.
+pub record ToldTables (stbl : Piece) (ps : List Piece) (rs : List Row) : Type 0 where
+  pub stts : ℕ
+  pub stsc : ℕ
+  pub stsz : ℕ
+  pub places : ℕ
+  pub same : tables_told stbl ps ≡ Ok (told stts stsc stsz places rs)
+
+pub tables_laid : (scale base at : ℕ) (entry : List ℕ) (stbl : Piece) (rs : List Row) → Tellable scale base rs → AllByRecursion Fits (stbl_parts entry rs)
+    → ToldTables stbl (laid at (stbl_parts entry rs)) rs
+tables_laid scale base at entry stbl rs t fits =
     let ss : List Timed = timed_of rs in
     let last : List Part = (codes "stsz", stsz_body (sizes_in_rows rs)) ∷ (codes "stsc", stsc_body (counts_in_rows rs)) ∷ places_part (places_in_rows rs) ∷ [] in
     let stts : List ℕ = stts_body (deltas_of (ticks_of rs)) in
@@ -310,4 +329,12 @@ tables_read bytes number scale base at entry stbl rs t fits held =
     let boxes : laid at (stbl_parts entry rs) ≡ boxes_at at b c d e f g entry rs =
     ap (λ (ps : List Piece). part_at at (codes "stsd", stsd_body entry) ∷ part_at b (codes "stts", stts) ∷ ps)
     (laid-append c (ctts_parts ss) (stss_parts ss ++ last) fits_ctts ∙ ap (λ (ps : List Piece). laid c (ctts_parts ss) ++ ps) (laid-append d (stss_parts ss) last fits_stss)) in
-    rw (boxes, told_read scale base at b c d e f g entry stbl rs t, samples_read scale base b f e g rs t, held) refl
+    record { stts = b; stsc = f; stsz = e; places = g; same = ap (tables_told stbl) boxes ∙ told_read scale base at b c d e f g entry stbl rs t }
+
+-- The tables of chunks that the tables can say are read back as their samples, in a file that holds these.
+pub tables_read : (bytes number scale base at : ℕ) (entry : List ℕ) (stbl : Piece) (rs : List Row) → Tellable scale base rs → AllByRecursion Fits (stbl_parts entry rs)
+    → held_in bytes number 0 (listed base rs) ≡ Ok tt → tables_in bytes number scale 1 stbl (laid at (stbl_parts entry rs)) ≡ Ok (listed base rs)
+unfolding tables_in samples_held
+tables_read bytes number scale base at entry stbl rs t fits held =
+    let k : ToldTables stbl (laid at (stbl_parts entry rs)) rs = tables_laid scale base at entry stbl rs t fits in
+    rw (k.same, samples_read scale base k.stts k.stsc k.stsz k.places rs t, held) refl

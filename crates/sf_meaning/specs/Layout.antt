@@ -1,16 +1,15 @@
+-- The file of a track as it is written: its movie box, and all of its bytes.
 use Rattle.std.specs.Prelude.{ℕ, pos, ◌+◌, ◌*◌, ◌/◌, nat_le, Bool, List, [], ◌∷◌, ◌++◌, length, map, codes, if◌then◌else◌}
 use Rattle.std.specs.List.{flat_map}
 use Rattle.sf_box.specs.Boxes.{box_of, be32, be64, wide_box}
 use Rattle.sf_box.specs.Parts.{Part, tiled}
+pub use Rattle.sf_tick.specs.Samples.{samples_of}
 use Rattle.sf_tick.specs.declared.types.Stored.{Stored}
 use Rattle.sf_tick.specs.declared.types.Chunk.{Chunk}
 use Rattle.sf_meaning.specs.Stbl.{zeros, Timed, Row, duration_in_rows, stbl_parts}
 use Rattle.sf_meaning.specs.Joined.{Held}
 
--- The samples of a list of chunks, and what is listed of samples.
-abbrev pub samples_of : List Chunk → List Stored
-samples_of chunks = flat_map (λ c. c.samples) chunks
-
+-- What is listed of samples.
 abbrev pub stored_bytes : List Stored → List ℕ
 stored_bytes ss = flat_map (λ s. s.bytes) ss
 
@@ -104,33 +103,50 @@ abbrev pub in_moov : ℕ → ℕ → List Part → List Part
 in_moov start_us length_us trak =
     (codes "mvhd", mvhd_body length_us) ∷ (codes "trak", tiled trak) ∷ (codes "udta", tiled (in_udta start_us)) ∷ []
 
+-- how long so many ticks are in microseconds
+abbrev pub microseconds : ℕ → ℕ → ℕ
+microseconds scale duration = duration * 1000000 / scale
+
+-- the boxes in each box of a movie box with these sample tables, of a track that lasts so many ticks
+unfoldable pub minf_with : List Part → List Part
+minf_with stbl = in_minf stbl
+
+unfoldable pub mdia_with : ℕ → ℕ → List Part → List Part
+mdia_with scale duration stbl = in_mdia scale duration (minf_with stbl)
+
+unfoldable pub trak_with : ℕ → ℕ → List Part → List Part
+trak_with scale duration stbl = in_trak (microseconds scale duration) (mdia_with scale duration stbl)
+
+unfoldable pub moov_with : ℕ → ℕ → ℕ → List Part → List Part
+moov_with scale duration start_us stbl = in_moov start_us (microseconds scale duration) (trak_with scale duration stbl)
+
+-- the sample table box of rows
+unfoldable pub stbl_box : List ℕ → List Row → List ℕ
+stbl_box entry rows = box_of (codes "stbl") (tiled (stbl_parts entry rows))
+
+-- The movie box of a track with this timescale, this sample entry and these rows, in a file with this start.
+unfoldable pub movie_box : ℕ → List ℕ → ℕ → List Row → List ℕ
+movie_box scale entry start_us rows =
+    box_of (codes "moov") (tiled (moov_with scale (duration_in_rows rows) start_us (stbl_parts entry rows)))
+
 -- how long the samples of a list of chunks last, in ticks and in microseconds
 abbrev pub duration_of : List Chunk → ℕ
 duration_of chunks = duration_in_rows (rows_of chunks)
 
 abbrev pub length_us_of : ℕ → List Chunk → ℕ
-length_us_of scale chunks = duration_of chunks * 1000000 / scale
+length_us_of scale chunks = microseconds scale (duration_of chunks)
 
 -- A file's start: the first sample's decode time, 0 without samples.
 abbrev pub first_dts : List Stored → ℕ
 first_dts [] = 0
 first_dts (s ∷ ss) = s.dts_us
 
--- the boxes of the file of a track's chunks
-abbrev pub minf_parts : List ℕ → List Chunk → List Part
-minf_parts entry chunks = in_minf (stbl_parts entry (rows_of chunks))
+-- the movie box of the file of these chunks
+abbrev pub movie_box_of : ℕ → List ℕ → List Chunk → List ℕ
+movie_box_of scale entry chunks = movie_box scale entry (first_dts (samples_of chunks)) (rows_of chunks)
 
-abbrev pub mdia_parts : ℕ → List ℕ → List Chunk → List Part
-mdia_parts scale entry chunks = in_mdia scale (duration_of chunks) (minf_parts entry chunks)
-
-abbrev pub trak_parts : ℕ → List ℕ → List Chunk → List Part
-trak_parts scale entry chunks = in_trak (length_us_of scale chunks) (mdia_parts scale entry chunks)
-
-abbrev pub moov_parts : ℕ → List ℕ → List Chunk → List Part
-moov_parts scale entry chunks = in_moov (first_dts (samples_of chunks)) (length_us_of scale chunks) (trak_parts scale entry chunks)
-
--- The file of one sound track's chunks, none of them empty.
+-- The file of one sound track's chunks, none of them empty: its type, the bytes of its samples, and the movie box.
 unfoldable pub layout : ℕ → List ℕ → List Chunk → List ℕ
 layout scale entry chunks =
     box_of (codes "ftyp") ftyp_body
-    ++ (wide_box (codes "mdat") (stored_bytes (samples_of chunks)) ++ tiled ((codes "moov", tiled (moov_parts scale entry chunks)) ∷ []))
+    ++ (wide_box (codes "mdat") (stored_bytes (samples_of chunks)) ++ movie_box_of scale entry chunks)

@@ -9,3 +9,6 @@ pub mod Joined
 pub mod Stbl
 pub mod Layout
 pub mod Writable
+pub mod Groups
+pub mod Written
+pub mod SampleAt

@@ -1,10 +1,10 @@
+-- Chunks of which a file is read back.
 use Rattle.std.specs.Prelude.{◌≡◌, ℕ, ◌+◌, ◌-◌, ◌^◌, ◌<◌, ◌≤◌, List, [], ◌∷◌, length}
 use Rattle.std.specs.List.{AllByRecursion}
-use Rattle.sf_box.specs.Parts.{tiled}
 use Rattle.sf_tick.specs.Tick.{tick}
 use Rattle.sf_tick.specs.declared.types.Stored.{Stored}
 use Rattle.sf_tick.specs.declared.types.Chunk.{Chunk}
-use Rattle.sf_meaning.specs.Layout.{samples_of, decodes_of, stored_bytes, duration_of, length_us_of, first_dts, moov_parts}
+use Rattle.sf_meaning.specs.Layout.{samples_of, decodes_of, stored_bytes, duration_of, length_us_of, first_dts, movie_box_of}
 
 -- a sample that is neither empty nor too long, and whose composition offset has four bytes
 pub record IsWritable (s : Stored) : Type 0 where
@@ -13,7 +13,7 @@ pub record IsWritable (s : Stored) : Type 0 where
   pub early : s.decode ≤ s.compose + 2 ^ 31
   pub late : s.compose < s.decode + 2 ^ 31
 
--- Decode times don't fall, and each is less than 2^32 ticks behind the one before.
+-- Decode times don't fall, and each is less than 2^32 ticks after the one before.
 abbrev pub Paced : ℕ → List ℕ → Type 0
 Paced t [] = Unit {0}
 Paced t (u ∷ ts) = (t ≤ u) × (u - t < 2 ^ 32) × Paced u ts
@@ -23,7 +23,7 @@ abbrev pub PacedFrom : ℕ → List ℕ → Type 0
 PacedFrom start [] = Unit {0}
 PacedFrom start (t ∷ ts) = (t ≡ start) × Paced t ts
 
--- Chunks of one track that a file with this timescale and this sample entry can hold.
+-- Chunks of one track that a file with this timescale and this sample entry holds and that are read back: their fields fit, no header needs its long form (8.2.2, 8.4.2), and neither the samples nor the movie box pass what is read.
 pub record Writable (scale : ℕ) (entry : List ℕ) (chunks : List Chunk) : Type 0 where
   pub scale_some : 1 ≤ scale
   pub scale_fits : scale < 2 ^ 32
@@ -35,4 +35,4 @@ pub record Writable (scale : ℕ) (entry : List ℕ) (chunks : List Chunk) : Typ
   pub duration : duration_of chunks < 2 ^ 32 - 1
   pub length_us : length_us_of scale chunks < 2 ^ 32 - 1
   pub payload : 40 + length (stored_bytes (samples_of chunks)) < 2 ^ 64
-  pub moov : 8 + length (tiled (moov_parts scale entry chunks)) ≤ 268435456
+  pub moov : length (movie_box_of scale entry chunks) ≤ 2 ^ 28

@@ -7,7 +7,7 @@ use Rattle.std.proofs.lemmas.List.Sums.{sum_by-append}
 use Rattle.std.proofs.lemmas.Bool.{ne_eqb}
 use Rattle.std.proofs.lemmas.Bool.Decides.{eqb_tells}
 use Rattle.sf_meaning.specs.Stbl.{Timed, runs_of, differences, deltas_of, uniform, sync_from, spread_from}
-use Rattle.sf_tables.specs.Totals.{last_or}
+use Rattle.sf_tables.specs.inner.Totals.{last_or}
 use Rattle.sf_tables.proofs.RunLists.{turns, runs_count}
 
 pub some_of : (n : ℕ) → (suc n == 0) ≡ false

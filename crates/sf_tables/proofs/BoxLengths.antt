@@ -4,14 +4,13 @@ use Rattle.std.specs.List.{flat_map}
 use Rattle.std.proofs.lemmas.List.{length-append, length-map}
 use Rattle.sf_box.specs.Boxes.{be32, be64}
 use Rattle.sf_box.specs.Parts.{Part, tiled}
-use Rattle.sf_box.proofs.Numbers.{length-be32, length-be64, length-box_of, length-opened}
-use Rattle.sf_box.proofs.Parts.{tiled-append, length-tiled-cons, length-tiled-nil}
+use Rattle.sf_box.proofs.BoxLaws.{length-be32, length-be64, length-box_of, length-opened, tiled-append, length-tiled-cons, length-tiled-nil}
 use Rattle.sf_meaning.specs.Tables.{Spread}
 use Rattle.sf_meaning.specs.Stbl.{Timed, Row, run_bytes, spread_bytes, runs_of, deltas_of, stts_body, ctts_body, stss_body, stsz_body, stsc_body, stco_body, co64_body, stsd_body, uniform, spread_from, offset_words, sync_numbers, all_in_time, none_early, all_sync, all_near, ctts_parts, stss_parts, places_part, stbl_parts, timed_of, counts_in_rows, places_in_rows}
 use Rattle.sf_tables.specs.declared.totals.SampleTotals.{SampleTotals}
 use Rattle.sf_tables.specs.declared.totals.ChunkTotals.{ChunkTotals}
-use Rattle.sf_tables.specs.Totals.{CountsSamples, CountsChunks}
-use Rattle.sf_tables.specs.Kept.{of_samples, of_chunks, stbl_from}
+use Rattle.sf_tables.specs.inner.Totals.{CountsSamples, CountsChunks}
+use Rattle.sf_tables.specs.inner.Kept.{of_samples, of_chunks, stbl_from}
 
 pub length-words : (xs : List ℕ) → length (flat_map be32 xs) ≡ 4 * length xs
 length-words [] = refl

@@ -4,7 +4,7 @@ use Rattle.std.proofs.lemmas.List.{append-nil, length-append, length-map, map-ap
 use Rattle.sf_meaning.specs.Stbl.{Timed, offset_word, offset_words}
 use Rattle.sf_tables.specs.declared.totals.SampleTotals.{SampleTotals}
 use Rattle.sf_tables.specs.declared.totals.ChunkTotals.{ChunkTotals}
-use Rattle.sf_tables.specs.Totals.{CountsSamples, CountsChunks, after_sample, after_samples, after_chunk}
+use Rattle.sf_tables.specs.inner.Totals.{CountsSamples, CountsChunks, after_sample, after_samples, after_chunk}
 use Rattle.sf_tables.proofs.Backs.{last_more, runs_with, delta_with, sum_with, delta_runs_with, size_with, all_with, syncs_more, spreads_more}
 
 pub counts_sample : (t : SampleTotals) (ss : List Timed) (s : Timed) → CountsSamples t ss → CountsSamples (after_sample t s) (ss ++ s ∷ [])

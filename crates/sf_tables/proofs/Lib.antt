@@ -4,3 +4,4 @@ pub mod KeptRows
 pub mod RunLists
 pub mod Tiling
 pub mod BoxLengths
+pub mod Spare

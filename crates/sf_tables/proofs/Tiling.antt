@@ -3,9 +3,9 @@ use Rattle.std.proofs.Common.{◌≡◌, ℕ, ◌+◌, ◌*◌, ◌≤◌, ◌==
 use Rattle.std.proofs.lemmas.List.{append-nil, length-append, take-take, take_at}
 use Rattle.sf_box.specs.Boxes.{box_of, opened}
 use Rattle.sf_box.specs.Parts.{Part, tiled}
-use Rattle.sf_box.proofs.Parts.{tiled-append}
+use Rattle.sf_box.proofs.BoxLaws.{tiled-append}
 use Rattle.sf_meaning.specs.Stbl.{Timed, runs_of, deltas_of, stts_body, ctts_body, stss_body, stsz_body, stsc_body, stco_body, co64_body, stsd_body, uniform, offset_words, sync_numbers, all_in_time, none_early, all_sync, all_near, ctts_parts, stss_parts}
-use Rattle.sf_tables.specs.Kept.{of_samples, of_chunks, stbl_from}
+use Rattle.sf_tables.specs.inner.Kept.{of_samples, of_chunks, stbl_from}
 use Rattle.sf_tables.proofs.BoxLengths.{length-ctts_parts, length-stss_parts, length-of_samples, length-of_chunks}
 
 two_boxes : (front a b : List ℕ) → front ++ (a ++ (b ++ [])) ≡ (front ++ a) ++ b

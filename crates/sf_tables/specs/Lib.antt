@@ -1,4 +1,2 @@
-pub mod Kept
 pub mod Rows
-pub mod Sound
-pub mod Totals
+pub mod inner

@@ -43,9 +43,8 @@ first_dts_with None [] = None
 first_dts_with None (s ∷ ss) = Some s.dts_us
 first_dts_with (Some us) ss = Some us
 
--- What the tables of a track are to those who use them: their rows, when the first added sample is decoded in microseconds, and for how many further samples and chunks there is room.
+-- What the tables of a track are to those who use them: their rows, when the first added sample is decoded in microseconds, and how many samples of one further chunk there is room for, 0 where there is no room for a chunk.
 pub record TrackTables : Type 0 where
   pub rows : List Row
   pub first_dts : Option ℕ
   pub spare : ℕ
-  pub spare_chunks : ℕ

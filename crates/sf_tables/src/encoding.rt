@@ -5,9 +5,9 @@ ghost use Rattle.std.specs.List.{AllByRecursion, flat_map};
 ghost use Rattle.sf_box.specs.Boxes.{be32, be64, box_of};
 ghost use Rattle.sf_box.specs.Parts.{tiled};
 ghost use Rattle.sf_meaning.specs.Stbl.{Timed, Row, timed_of, places_in_rows, counts_in_rows, stbl_parts, ctts_parts, stss_parts, places_part, stsd_body, stts_body, ctts_body, stss_body, stsz_body, stsc_body, stco_body, co64_body, deltas_of, offset_words, sync_numbers, all_sync, all_in_time, all_near, none_early, runs_of, run_bytes, spread_from, spread_bytes, uniform};
-ghost use Rattle.sf_tables.specs.Kept.{OffsetFits, counts_kept, of_chunks, of_samples, places_kept, sizes_kept, stbl_from, ticks_kept, timed_kept};
+ghost use Rattle.sf_tables.specs.inner.Kept.{OffsetFits, counts_kept, of_chunks, of_samples, places_kept, sizes_kept, stbl_from, ticks_kept, timed_kept};
 ghost use Rattle.sf_tables.specs.Rows.{AllHaveRoom};
-ghost use Rattle.sf_tables.specs.Totals.{CountsChunks, CountsSamples};
+ghost use Rattle.sf_tables.specs.inner.Totals.{CountsChunks, CountsSamples};
 
 use crate::kept::{KeptChunk, KeptSample};
 use crate::runs::{OpenRun, end_run, take_value};

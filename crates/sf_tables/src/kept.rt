@@ -1,6 +1,6 @@
 ghost use Rattle.std.specs.Prelude.{◌≡◌, ℕ, ◌+◌, ◌^◌, ◌<◌, ◌≤◌, ◌++◌, length, map, vec_len, vec_capacity};
 ghost use Rattle.std.specs.List.{AllByRecursion};
-ghost use Rattle.sf_tables.specs.Kept.{timed_kept};
+ghost use Rattle.sf_tables.specs.inner.Kept.{timed_kept};
 ghost use Rattle.sf_meaning.specs.Layout.{timed};
 
 use sf_tick::Stored;

@@ -3,7 +3,7 @@
 ghost use Rattle.std.specs.Prelude.{◌≡◌, ℕ, ◌+◌, ◌*◌, ◌^◌, ◌<◌, ◌==◌, List, length, if◌then◌else◌};
 ghost use Rattle.sf_box.specs.Parts.{tiled};
 ghost use Rattle.sf_meaning.specs.Stbl.{Row, timed_of, places_in_rows, counts_in_rows, stbl_parts};
-ghost use Rattle.sf_tables.specs.Totals.{CountsChunks, CountsSamples, Steady};
+ghost use Rattle.sf_tables.specs.inner.Totals.{CountsChunks, CountsSamples, Steady};
 
 use crate::totals::{ChunkTotals, SampleTotals};
 

@@ -1,4 +1,4 @@
-ghost use Rattle.std.specs.Prelude.{◌≡◌, ℕ, ◌+◌, ◌^◌, ◌<◌, ◌≤◌, ◌⊎◌, List, [], ◌∷◌, ◌++◌, codes, length, None, OnOk, OnErr};
+ghost use Rattle.std.specs.Prelude.{◌≡◌, ℕ, ◌+◌, ◌^◌, ◌<◌, ◌≤◌, List, [], ◌∷◌, ◌++◌, codes, length, None, OnOk, OnErr};
 ghost use Rattle.sf_box.specs.Boxes.{box_of};
 ghost use Rattle.sf_box.specs.Parts.{tiled};
 ghost use Rattle.sf_meaning.specs.Stbl.{Row, timed_of, duration_in_rows, stbl_parts};
@@ -30,10 +30,10 @@ impl Model for Tables {
     ghost Value = { TrackTables };
 
     ghost use Rattle.std.specs.Prelude.{map};
-    ghost use Rattle.sf_tables.specs.Kept.{rows_kept, timed_kept};
-    ghost use Rattle.sf_tables.specs.Sound.{Sound, spare_of};
+    ghost use Rattle.sf_tables.specs.inner.Kept.{rows_kept, timed_kept};
+    ghost use Rattle.sf_tables.specs.inner.Sound.{Sound, room_for, spare_of};
 
-    ghost view = { λ t. record { rows = rows_kept t.chunks.items (map timed_kept t.samples.items); first_dts = t.first_dts; spare = spare_of t.samples; spare_chunks = spare_of t.chunks } };
+    ghost view = { λ t. record { rows = rows_kept t.chunks.items (map timed_kept t.samples.items); first_dts = t.first_dts; spare = room_for (spare_of t.samples) (spare_of t.chunks) } };
 
     ghost invariant = { λ t. Sound t.of_samples t.of_chunks t.samples.items t.chunks.items };
 }
@@ -53,13 +53,11 @@ impl Tables {
         }
     }
 
-    /// Makes room for a chunk. It fails only where there is no such room and no memory for it, and then the tables
-    /// stay as they are.
+    /// Makes room for a chunk. Without memory the room may have grown, and all else is as before.
+    #[tactic(auto, using(crate::proofs::Spare::spare_facts))]
     pub fn reserve_chunk(&mut self, chunk: &Chunk) -> Result<(), AllocError>
-        ensures samples { OnOk result (length chunk.now.samples ≤ self.new.spare) }
-        ensures chunk { OnOk result (1 ≤ self.new.spare_chunks) }
-        ensures full { OnErr result ((self.old.spare < length chunk.now.samples) ⊎ (self.old.spare_chunks ≡ 0)) }
-        ensures more { (self.old.spare ≤ self.new.spare) × (self.old.spare_chunks ≤ self.new.spare_chunks) }
+        ensures room { OnOk result (length chunk.now.samples ≤ self.new.spare) }
+        ensures more { self.old.spare ≤ self.new.spare }
         ensures rows { self.new.rows ≡ self.old.rows }
         ensures first { self.new.first_dts ≡ self.old.first_dts }
     {
@@ -70,12 +68,9 @@ impl Tables {
     /// Adds a chunk that begins at this place, in bytes from the start of the file. It takes no memory.
     pub fn add_chunk(&mut self, place: u64, chunk: &Chunk)
         requires spare { length chunk.now.samples ≤ self.old.spare }
-        requires spare_chunk { 1 ≤ self.old.spare_chunks }
         requires addable { Addable self.old.rows chunk.now }
         ensures rows { self.new.rows ≡ with_chunk self.old.rows place chunk.now }
         ensures first { self.new.first_dts ≡ first_dts_with self.old.first_dts chunk.now.samples }
-        ensures spare { self.new.spare + length chunk.now.samples ≡ self.old.spare }
-        ensures spare_chunks { self.new.spare_chunks + 1 ≡ self.old.spare_chunks }
     {
         let samples = chunk.samples.as_slice();
         self.of_samples = self.of_samples.with_samples(samples);

@@ -5,7 +5,7 @@ ghost use Rattle.sf_box.specs.Parts.{tiled};
 ghost use Rattle.sf_meaning.specs.Stbl.{Row, timed_of, places_in_rows, counts_in_rows, stbl_parts, offset_word};
 ghost use Rattle.sf_meaning.specs.Layout.{timed};
 ghost use Rattle.sf_tables.specs.Rows.{AllHaveRoom, HasRoom};
-ghost use Rattle.sf_tables.specs.Totals.{CountsChunks, CountsSamples, Steady, after_chunk, after_sample, after_samples, last_counted};
+ghost use Rattle.sf_tables.specs.inner.Totals.{CountsChunks, CountsSamples, Steady, after_chunk, after_sample, after_samples, last_counted};
 
 use sf_tick::Stored;
 

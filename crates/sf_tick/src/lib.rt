@@ -4,10 +4,12 @@
 //! (ISO/IEC 14496-12, 8.4.2).
 #![tactic(auto)]
 
+mod laws;
 mod times;
 mod types;
 
-pub use times::{greatest_us, nearest_tick, rising_tick, to_tick, to_us};
+pub use laws::{greatest_us, nearest_tick, rising_tick};
+pub use times::{to_tick, to_us};
 pub use types::{Chunk, Kind, Sample, Samples, Setup, Stored};
 
 #[cfg(test)]

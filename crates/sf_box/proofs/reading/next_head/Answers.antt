@@ -1,4 +1,4 @@
-use Rattle.std.proofs.Common.{◌≡◌, ℕ, ◌+◌, ◌-◌, Bool, List, length, take, min, Result, Ok, Err, ap, sym, ◌∙◌, refl, arith, IfOk}
+use Rattle.std.proofs.Common.{◌≡◌, ℕ, ◌+◌, ◌-◌, Bool, List, length, take, min, Result, Ok, Err, ap, sym, ◌∙◌, arith, IfOk}
 use Rattle.sf_box.specs.declared.types.BoxHead.{BoxHead}
 use Rattle.sf_box.specs.declared.types.BoxFault.{BoxFault}
 use Rattle.sf_box.specs.Boxes.{Takes, head_in, head_of}
@@ -21,5 +21,5 @@ returns c =
     let count : c.min.result ≡ min 16 (length rest) = omega arith in
     let first : c.split_at.result.0.now ≡ take (min 16 (length rest)) rest = c.split_at.ensures.front ∙ ap (λ (n : ℕ). take n rest) count in
     let head : c.read_head.result ≡ head_of c.args.top c.args.at rest =
-    c.read_head.ensures ∙ ap (λ (n : ℕ). head_in c.args.top c.args.at n c.split_at.result.0.now) room ∙ first_tells c.args.top c.args.at rest c.split_at.result.0.now first in
+    c.read_head.ensures.head ∙ ap (λ (n : ℕ). head_in c.args.top c.args.at n c.split_at.result.0.now) room ∙ first_tells c.args.top c.args.at rest c.split_at.result.0.now first in
     record { head = head; takes = takes_of c.args.top c.args.at rest c.read_head.result head; place = place_of c.args.top c.args.at rest c.read_head.result head }

@@ -1,6 +1,5 @@
 use Rattle.std.proofs.Common.{◌≡◌, ◌+◌, true, length}
-use Rattle.sf_box.specs.Boxes.{boxes}
-use Rattle.sf_box.proofs.Parts.{joined_with}
+use Rattle.sf_box.specs.Boxes.{joined_with, boxes}
 use Rattle.sf_meaning.specs.Reads.{pieces}
 use Rattle.sf_meaning.proofs.whole.top_boxes.Given as goal
 

@@ -1,7 +1,7 @@
 use Rattle.std.proofs.Common.{◌≡◌, ◌≤◌, ◌++◌, length, map, drop, take, replicate, Some}
 use Rattle.std.specs.List.{flat_map}
 use Rattle.sf_meaning.specs.Stbl.{run_bytes, runs_of, differences, deltas_of}
-use Rattle.sf_tables.specs.Kept.{timed_kept, ticks_kept}
+use Rattle.sf_tables.specs.inner.Kept.{timed_kept, ticks_kept}
 use Rattle.sf_tables.specs.Rows.{AllHaveRoom}
 use Rattle.sf_tables.proofs.encoding.put_delta_runs.Given as goal
 

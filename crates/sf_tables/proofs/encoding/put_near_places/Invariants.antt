@@ -2,7 +2,7 @@ use Rattle.std.proofs.Common.{◌≡◌, true, ◌++◌, length, drop, take}
 use Rattle.std.specs.List.{flat_map}
 use Rattle.sf_box.specs.Boxes.{be32}
 use Rattle.sf_meaning.specs.Stbl.{all_near}
-use Rattle.sf_tables.specs.Kept.{places_kept}
+use Rattle.sf_tables.specs.inner.Kept.{places_kept}
 use Rattle.sf_tables.proofs.encoding.put_near_places.Given as goal
 
 abbrev pub invariant-loop-chunk : goal.invariant-loop-chunk

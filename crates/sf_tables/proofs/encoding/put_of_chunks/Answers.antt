@@ -2,7 +2,7 @@ use Rattle.std.proofs.Common.{◌≡◌, true, false, sym, ◌∙◌, arith}
 use Rattle.std.proofs.lemmas.List.{length-map}
 use Rattle.sf_meaning.specs.Stbl.{all_near}
 use Rattle.sf_tables.specs.declared.kept.KeptChunk.{KeptChunk}
-use Rattle.sf_tables.specs.Kept.{counts_kept, places_kept}
+use Rattle.sf_tables.specs.inner.Kept.{counts_kept, places_kept}
 use Rattle.sf_tables.proofs.BoxLengths.{length-of_chunks}
 use Rattle.sf_tables.proofs.Tiling.{near_tiled, wide_tiled, near_size, wide_size}
 use Rattle.sf_tables.proofs.encoding.put_of_chunks.Goals as goal

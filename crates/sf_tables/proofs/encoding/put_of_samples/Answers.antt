@@ -1,7 +1,7 @@
 use Rattle.std.proofs.Common.{map, sym, ◌∙◌, arith}
 use Rattle.std.specs.Prelude.{None}
 use Rattle.std.proofs.lemmas.List.{length-map}
-use Rattle.sf_tables.specs.Kept.{timed_kept}
+use Rattle.sf_tables.specs.inner.Kept.{timed_kept}
 use Rattle.sf_tables.proofs.BoxLengths.{length-of_samples, length-ctts_parts, length-stss_parts}
 use Rattle.sf_tables.proofs.KeptRows.{offsets_fit}
 use Rattle.sf_tables.proofs.Tiling.{listed_sizes, samples_tiled}

@@ -1,7 +1,7 @@
 use Rattle.std.proofs.Common.{◌≡◌, ◌≤◌, ◌++◌, length, map, drop, take, replicate}
 use Rattle.std.specs.List.{flat_map}
 use Rattle.sf_meaning.specs.Stbl.{run_bytes, runs_of, offset_words}
-use Rattle.sf_tables.specs.Kept.{OffsetFits, timed_kept}
+use Rattle.sf_tables.specs.inner.Kept.{OffsetFits, timed_kept}
 use Rattle.std.specs.List.{AllByRecursion}
 use Rattle.sf_tables.proofs.encoding.put_offset_runs.Given as goal
 

@@ -1,7 +1,7 @@
 use Rattle.std.proofs.Common.{◌≡◌, true, false, map, sym, ◌∙◌, arith}
 use Rattle.std.proofs.lemmas.List.{append-nil}
 use Rattle.sf_meaning.specs.Stbl.{all_in_time}
-use Rattle.sf_tables.specs.Kept.{timed_kept}
+use Rattle.sf_tables.specs.inner.Kept.{timed_kept}
 use Rattle.sf_tables.proofs.Tiling.{no_ctts, one_ctts, ctts_size}
 use Rattle.sf_tables.proofs.encoding.put_offsets.Goals as goal
 

@@ -1,7 +1,7 @@
 use Rattle.std.proofs.Common.{◌≡◌, ◌++◌, length, drop, take}
 use Rattle.std.specs.List.{flat_map}
 use Rattle.sf_box.specs.Boxes.{be32}
-use Rattle.sf_tables.specs.Kept.{sizes_kept}
+use Rattle.sf_tables.specs.inner.Kept.{sizes_kept}
 use Rattle.sf_tables.proofs.encoding.put_sizes.Given as goal
 
 abbrev pub invariant-loop-sample : goal.invariant-loop-sample

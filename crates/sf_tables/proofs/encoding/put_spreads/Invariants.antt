@@ -1,7 +1,7 @@
 use Rattle.std.proofs.Common.{◌≡◌, ◌+◌, ◌++◌, length, drop, take}
 use Rattle.std.specs.List.{flat_map}
 use Rattle.sf_meaning.specs.Stbl.{spread_from, spread_bytes}
-use Rattle.sf_tables.specs.Kept.{counts_kept}
+use Rattle.sf_tables.specs.inner.Kept.{counts_kept}
 use Rattle.sf_tables.proofs.encoding.put_spreads.Given as goal
 
 abbrev pub invariant-loop-index : goal.invariant-loop-index

@@ -2,9 +2,9 @@ use Rattle.std.proofs.Common.{◌≡◌, ℕ, List, ◌++◌, codes, length, map
 use Rattle.std.proofs.lemmas.List.{length-append}
 use Rattle.sf_box.specs.Boxes.{box_of, opened}
 use Rattle.sf_box.specs.Parts.{tiled}
-use Rattle.sf_box.proofs.Numbers.{length-opened}
+use Rattle.sf_box.proofs.BoxLaws.{length-opened}
 use Rattle.sf_meaning.specs.Stbl.{stsd_body}
-use Rattle.sf_tables.specs.Kept.{counts_kept, places_kept, timed_kept, of_samples, stbl_from}
+use Rattle.sf_tables.specs.inner.Kept.{counts_kept, places_kept, timed_kept, of_samples, stbl_from}
 use Rattle.sf_tables.proofs.BoxLengths.{length-stbl_from}
 use Rattle.sf_tables.proofs.Tiling.{grows_more, stbl_tiled}
 use Rattle.sf_tables.proofs.encoding.put_stbl.Goals as goal

@@ -2,7 +2,7 @@ use Rattle.std.proofs.Common.{◌≡◌, ◌+◌, ◌++◌, length, map, drop, t
 use Rattle.std.specs.List.{flat_map}
 use Rattle.sf_box.specs.Boxes.{be32}
 use Rattle.sf_meaning.specs.Stbl.{sync_from}
-use Rattle.sf_tables.specs.Kept.{timed_kept}
+use Rattle.sf_tables.specs.inner.Kept.{timed_kept}
 use Rattle.sf_tables.proofs.encoding.put_sync_numbers.Given as goal
 
 abbrev pub invariant-loop-index : goal.invariant-loop-index

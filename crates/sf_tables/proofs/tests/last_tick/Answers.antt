@@ -2,8 +2,8 @@ use Rattle.std.proofs.Common.{◌≡◌, ◌==◌, false, List, map, ap, subst}
 use Rattle.std.proofs.lemmas.Bool.{ne_eqb}
 use Rattle.sf_meaning.specs.Stbl.{Row, timed_of}
 use Rattle.sf_tables.specs.Rows.{TrackTables}
-use Rattle.sf_tables.specs.Kept.{rows_kept, timed_kept}
-use Rattle.sf_tables.specs.Totals.{CountsSamples}
+use Rattle.sf_tables.specs.inner.Kept.{rows_kept, timed_kept}
+use Rattle.sf_tables.specs.inner.Totals.{CountsSamples}
 use Rattle.sf_tables.proofs.KeptRows.{counted, last_counted_is}
 use Rattle.sf_tables.proofs.tests.last_tick.Goals as goal
 

@@ -3,11 +3,11 @@ use Rattle.std.proofs.Common.{subst}
 use Rattle.sf_meaning.specs.Stbl.{Row, timed_of}
 use Rattle.sf_meaning.specs.Layout.{timed}
 use Rattle.sf_tables.specs.Rows.{TrackTables, with_chunk}
-use Rattle.sf_tables.specs.Kept.{rows_kept, timed_kept}
+use Rattle.sf_tables.specs.inner.Kept.{rows_kept, timed_kept}
 use Rattle.sf_tick.specs.declared.types.Stored.{Stored}
 use Rattle.sf_tables.specs.declared.kept.KeptChunk.{KeptChunk}
 use Rattle.sf_tables.specs.declared.totals.ChunkTotals.{ChunkTotals}
-use Rattle.sf_tables.specs.Totals.{CountsSamples, Steady, after_samples}
+use Rattle.sf_tables.specs.inner.Totals.{CountsSamples, Steady, after_samples}
 use Rattle.sf_tables.proofs.KeptRows.{counted, chunks_few, last_counted_is, sizes_fit, sound_with, rows_with}
 use Rattle.sf_tables.proofs.tables.Tables.add_chunk.Goals as goal
 

@@ -2,8 +2,8 @@ use Rattle.std.proofs.Common.{◌≡◌, List, map, ap, ◌∙◌, arith}
 use Rattle.std.proofs.Common.{subst}
 use Rattle.sf_meaning.specs.Stbl.{Row, timed_of}
 use Rattle.sf_tables.specs.Rows.{TrackTables}
-use Rattle.sf_tables.specs.Kept.{rows_kept, timed_kept}
-use Rattle.sf_tables.specs.Totals.{CountsSamples}
+use Rattle.sf_tables.specs.inner.Kept.{rows_kept, timed_kept}
+use Rattle.sf_tables.specs.inner.Totals.{CountsSamples}
 use Rattle.sf_tables.proofs.KeptRows.{counted, counted_with, last_counted_is}
 use Rattle.sf_tables.proofs.tables.Tables.duration_with.Goals as goal
 

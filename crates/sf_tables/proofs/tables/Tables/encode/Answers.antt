@@ -7,7 +7,7 @@ use Rattle.sf_tables.specs.declared.kept.KeptChunk.{KeptChunk}
 use Rattle.sf_tables.specs.declared.kept.KeptSample.{KeptSample}
 use Rattle.sf_meaning.specs.Stbl.{stbl_parts, Row}
 use Rattle.sf_tables.specs.Rows.{TrackTables}
-use Rattle.sf_tables.specs.Kept.{rows_kept, timed_kept, places_kept, counts_kept, stbl_from}
+use Rattle.sf_tables.specs.inner.Kept.{rows_kept, timed_kept, places_kept, counts_kept, stbl_from}
 use Rattle.sf_tables.proofs.KeptRows.{stbl_back}
 use Rattle.sf_tables.proofs.tables.Tables.encode.Goals as goal
 

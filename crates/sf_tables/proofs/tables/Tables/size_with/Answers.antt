@@ -2,8 +2,8 @@ use Rattle.std.proofs.Common.{◌≡◌, List, map, ap, arith}
 use Rattle.std.proofs.Common.{subst}
 use Rattle.sf_meaning.specs.Stbl.{Row, timed_of, places_in_rows, counts_in_rows}
 use Rattle.sf_tables.specs.Rows.{TrackTables, with_chunk}
-use Rattle.sf_tables.specs.Kept.{rows_kept, timed_kept}
-use Rattle.sf_tables.specs.Totals.{CountsSamples, CountsChunks}
+use Rattle.sf_tables.specs.inner.Kept.{rows_kept, timed_kept}
+use Rattle.sf_tables.specs.inner.Totals.{CountsSamples, CountsChunks}
 use Rattle.sf_tables.proofs.KeptRows.{counted, chunks_counted, counted_with, chunks_counted_with, chunks_few, last_counted_is}
 use Rattle.sf_tables.proofs.tables.Tables.size_with.Goals as goal
 

@@ -1,5 +1,5 @@
 use Rattle.sf_meaning.proofs.ReadBack.{layout_joined}
-use Rattle.sf_meaning.proofs.layout_is_read_back.Goals as goal
+use Rattle.sf_meaning.proofs.laws.layout_is_read_back.Goals as goal
 
 pub returns : goal.returns
 returns c = layout_joined
