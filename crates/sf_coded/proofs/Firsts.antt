@@ -12,8 +12,8 @@ use Rattle.sf_coded.specs.declared.types.CodedFault.TheVariants.{ReadFault, NoMe
 use Rattle.sf_coded.specs.declared.fields.Header.{Header}
 use Rattle.sf_coded.specs.declared.fields.Turn.{Turn}
 use Rattle.sf_coded.specs.CodedFile.{header_in, record_in}
-use Rattle.sf_coded.specs.Window.{AreFrom}
-use Rattle.sf_coded.specs.Steps.{TurnIs, TurnTold, HeaderIs, HeaderTold}
+use Rattle.sf_coded.specs.inner.Window.{AreFrom}
+use Rattle.sf_coded.specs.inner.Steps.{TurnIs, TurnTold, HeaderIs, HeaderTold}
 
 -- a part that lies within the first bytes
 part_in : (k m n : ℕ) (xs : List ℕ) → k + m ≤ n → take m (drop k (take n xs)) ≡ take m (drop k xs)

@@ -12,9 +12,9 @@ use Rattle.sf_coded.specs.declared.fields.Record.{Record}
 use Rattle.sf_coded.specs.declared.fields.Turn.{Turn}
 use Rattle.sf_coded.specs.declared.fields.Turn.TheVariants.{End, Next}
 use Rattle.sf_coded.specs.CodedFile.{record_in, record_fields, sample_of, Records, ended, with_sample, turned, records, records_at, file_of, coded}
-use Rattle.sf_coded.specs.Window.{AreFrom}
+use Rattle.sf_coded.specs.inner.Window.{AreFrom}
 use Rattle.sf_coded.specs.Progress.{NextTold, Moves, Stands, Follows, RefusesBy}
-use Rattle.sf_coded.specs.Steps.{SetupTold, TurnTold}
+use Rattle.sf_coded.specs.inner.Steps.{SetupTold, TurnTold}
 
 -- the two ways of a choice
 chosen : {A : Type 0} (b : Bool) (x y z : A) → cond b x y ≡ z → ((b ≡ true) × (x ≡ z)) ⊎ ((b ≡ false) × (y ≡ z))

@@ -3,7 +3,7 @@ use Rattle.std.proofs.Common.{◌≡◌, ℕ, zero, suc, ◌+◌, ◌-◌, ◌�
 use Rattle.std.proofs.lemmas.List.{take-take, drop-take, drop-drop, nil_from_length}
 use Rattle.std.proofs.Math.Seq.{take-add}
 use Rattle.sf_world.specs.Contents.{ReadsAt}
-use Rattle.sf_coded.specs.Window.{AreFrom, Covers}
+use Rattle.sf_coded.specs.inner.Window.{AreFrom, Covers}
 
 -- a part of what a block holds
 part_is : (all block : List ℕ) (from held at count : ℕ) → take held block ≡ take held (drop from all) → from ≤ at → at + count ≤ from + held

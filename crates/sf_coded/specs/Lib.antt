@@ -1,4 +1,3 @@
+pub mod inner
 pub mod CodedFile
-pub mod Steps
 pub mod Progress
-pub mod Window

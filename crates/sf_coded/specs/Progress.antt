@@ -1,9 +1,8 @@
 -- How far a coded file is read, and what the answers so far say of it.
-use Rattle.std.specs.Prelude.{◌≡◌, ℕ, ◌+◌, ◌^◌, ◌≤◌, ◌<◌, Bool, List, [], ◌∷◌, ◌++◌, length, drop, Option, Some, None, Result, Ok, Err, refl, ⊤}
-use Rattle.std.specs.Coded.{Coded, code_by, coded×, coded_ℕ, coded_bool}
+use Rattle.std.specs.Prelude.{◌≡◌, ℕ, ◌+◌, ◌^◌, ◌≤◌, ◌<◌, Bool, List, [], ◌∷◌, ◌++◌, length, drop, Option, Some, None, Result, Ok, Err, ⊤}
 use Rattle.sf_tick.specs.declared.types.Setup.{Setup}
-use Rattle.sf_tick.specs.contracts.types.Setup as setup
 use Rattle.sf_world.specs.Counts.{Rose}
+use Rattle.sf_world.specs.Views.{SourceView}
 use Rattle.sf_coded.specs.declared.types.CodedFault.{CodedFault}
 use Rattle.sf_coded.specs.declared.types.CodedFault.TheVariants.{ReadFault, NoMemory}
 use Rattle.sf_coded.specs.declared.types.CodedSample.{CodedSample}
@@ -11,25 +10,19 @@ use Rattle.sf_coded.specs.declared.fields.Record.{Record}
 use Rattle.sf_coded.specs.declared.fields.Turn.TheVariants.{End, Next}
 use Rattle.sf_coded.specs.CodedFile.{record_in, sample_of, records_at, file_of, coded}
 
--- A coded file that is read: its setup, the place of the next record, whether its end was told, and its source.
-pub record Progress (S : Type 0) : Type 0 where
+-- A coded file that is read: its setup, the place of the next record, whether its end was told, and what its source shows.
+pub record Progress : Type 0 where
   pub setup : Setup
   pub place : ℕ
   pub is_over : Bool
-  pub source : S
+  pub source : SourceView
 
--- a progress is told from others by these four
-abbrev pub progress_code : {S : Type 0} → Coded S → Coded (Progress S)
-progress_code {S} source =
-    code_by (Setup × (ℕ × (Bool × S))) (coded× setup.the_row.coded (coded× coded_ℕ (coded× coded_bool source)))
-    (λ p. (p.setup, (p.place, (p.is_over, p.source))))
-    (λ t. record { setup = t.0; place = t.1.0; is_over = t.1.1.0; source = t.1.1.1 })
-    (λ _. refl)
-
--- A count of faults over a call: it never falls, and a read fault comes only where it rose.
-pub record ReadCause {T : Type 0} (before now : ℕ) (result : Result T CodedFault) : Type 0 where
-  pub later : before ≤ now
-  pub failed : result ≡ Err ReadFault → Rose before now
+-- A source over a reading: it is as it was, but its count of faults may be greater, and rose at a read fault.
+pub record ReadOn {T : Type 0} (before after : SourceView) (result : Result T CodedFault) : Type 0 where
+  pub content : after.content ≡ before.content
+  pub size : after.size ≡ before.size
+  pub later : before.faults ≤ after.faults
+  pub failed : result ≡ Err ReadFault → Rose before.faults after.faults
 
 -- an answer is what the record at the front of the rest says, unless it tells of the outside or of memory
 abbrev pub NextIs : ℕ → List ℕ → Result (Option CodedSample) CodedFault → Type 0
@@ -48,6 +41,10 @@ NextTold (Some bytes) at result = NextIs at (drop at bytes) result
 abbrev pub Stands : Option (List ℕ) → Setup → List CodedSample → ℕ → Type 0
 Stands None setup samples place = ⊤
 Stands (Some bytes) setup samples place = coded bytes ≡ file_of setup samples (records_at place (drop place bytes))
+
+-- these samples were read of a file so far
+abbrev pub HasRead : List CodedSample → Progress → Type 0
+HasRead samples file = Stands file.source.content file.setup samples file.place
 
 -- these are all samples of the file, and it ends so, where its bytes are told
 abbrev pub EndsSo : Option (List ℕ) → Setup → List CodedSample → Option CodedFault → Type 0

@@ -1,7 +1,7 @@
 ghost use Rattle.std.specs.Prelude.{◌≡◌, ℕ, ◌+◌, ◌-◌, ◌^◌, ◌≤◌, ◌<◌, min, length, take, drop, OnOk, IfOk, IfErr};
 ghost use Rattle.sf_world.specs.Contents.{HasLength};
-ghost use Rattle.sf_world.specs.Counts.{HasCause};
-ghost use Rattle.sf_coded.specs.Window.{Window, Covers, AreFrom};
+ghost use Rattle.sf_world.specs.Views.{ReadOver, SourceView};
+ghost use Rattle.sf_coded.specs.inner.Window.{Window, Covers, AreFrom};
 
 use sf_world::{Failed, Source};
 use std::alloc::{AllocError, Global};
@@ -46,15 +46,13 @@ impl Block {
 
     // Reads a block from a place on, which has a part of the source.
     fn fill<S: Source>(&mut self, source: &mut S, at: u64, count: usize) -> Result<(), Failed>
-        requires window { Window (S.contents source.old) (S.size source.old) self.old.bytes.items self.old.from self.old.held }
+        requires window { Window (S.seen source.old) self.old.bytes.items self.old.from self.old.held }
         requires fits { count ≤ 65536 }
-        requires part { at + count ≤ S.size source.old }
-        requires size { S.size source.old < 2 ^ 64 }
-        ensures window { Window (S.contents source.new) (S.size source.new) self.new.bytes.items self.new.from self.new.held }
+        requires part { at + count ≤ (S.seen source.old).size }
+        requires size { (S.seen source.old).size < 2 ^ 64 }
+        ensures window { Window (S.seen source.new) self.new.bytes.items self.new.from self.new.held }
         ensures covers { OnOk result (Covers self.new.from self.new.held at count) }
-        ensures contents { S.contents source.new ≡ S.contents source.old }
-        ensures size { S.size source.new ≡ S.size source.old }
-        ensures cause { HasCause (S.measure source.old) (S.measure source.new) result }
+        ensures source { ReadOver (S.seen source.old) (S.seen source.new) result }
     {
         self.held = 0;
         self.from = at;
@@ -85,17 +83,17 @@ pub struct Blocks<S: Source> {
 }
 
 impl<S: Source> Model for Blocks<S> {
-    ghost Value = { S };
+    ghost Value = { SourceView };
 
-    ghost view = { λ b. b.source };
+    ghost view = { λ b. S.seen b.source };
 
-    ghost invariant = { λ b. (b.size ≡ S.size b.source) × Window (S.contents b.source) (S.size b.source) b.block.bytes.items b.block.from b.block.held };
+    ghost invariant = { λ b. (b.size ≡ (S.seen b.source).size) × Window (S.seen b.source) b.block.bytes.items b.block.from b.block.held };
 }
 
 impl<S: Source> Blocks<S> {
     /// A source with an empty block, or the source alone where there is no memory.
     pub fn new(alloc: Global, source: S) -> Result<Blocks<S>, S>
-        ensures ok { IfOk result (λ b. b ≡ source) }
+        ensures ok { IfOk result (λ b. b ≡ S.seen source) }
         ensures err { IfErr result (λ s. s ≡ source) }
     {
         let Ok(bytes) = zeros(alloc, BLOCK) else {
@@ -116,15 +114,15 @@ impl<S: Source> Blocks<S> {
 
     /// The length of the source.
     pub fn size(&self) -> u64
-        ensures size { result ≡ S.size self.now }
-        ensures told { HasLength (S.contents self.now) result }
+        ensures size { result ≡ self.now.size }
+        ensures told { HasLength self.now.content result }
     {
         self.size
     }
 
     /// The source alone.
     pub fn give_source(self) -> S
-        ensures { result ≡ self }
+        ensures { S.seen result ≡ self }
     {
         self.source
     }
@@ -132,11 +130,9 @@ impl<S: Source> Blocks<S> {
     // Reads bytes that the block doesn't hold. A part that is longer than the block is read straight
     // into its place.
     fn read_anew(&mut self, at: u64, into: &mut [u8]) -> Result<(), Failed>
-        requires { at + length into.old ≤ S.size self.old }
-        ensures bytes { OnOk result (AreFrom (S.contents self.old) at into.new) }
-        ensures contents { S.contents self.new ≡ S.contents self.old }
-        ensures size { S.size self.new ≡ S.size self.old }
-        ensures cause { HasCause (S.measure self.old) (S.measure self.new) result }
+        requires { at + length into.old ≤ self.old.size }
+        ensures bytes { OnOk result (AreFrom self.old.content at into.new) }
+        ensures source { ReadOver self.old self.new result }
     {
         if into.len() > BLOCK {
             self.source.read_at(at, into)?;
@@ -150,11 +146,9 @@ impl<S: Source> Blocks<S> {
     /// Reads the bytes from a place on, which the source has, into a buffer: what the block holds of
     /// them from the block, and the others from the source.
     pub fn read(&mut self, at: u64, into: &mut [u8]) -> Result<(), Failed>
-        requires { at + length into.old ≤ S.size self.old }
-        ensures bytes { OnOk result (AreFrom (S.contents self.old) at into.new) }
-        ensures contents { S.contents self.new ≡ S.contents self.old }
-        ensures size { S.size self.new ≡ S.size self.old }
-        ensures cause { HasCause (S.measure self.old) (S.measure self.new) result }
+        requires { at + length into.old ≤ self.old.size }
+        ensures bytes { OnOk result (AreFrom self.old.content at into.new) }
+        ensures source { ReadOver self.old self.new result }
     {
         let count = self.block.held_from(at, into.len());
         let (held, rest) = into.split_at_mut(count);

@@ -1,8 +1,9 @@
 ghost use Rattle.std.specs.Prelude.{◌≡◌, ℕ, ◌+◌, ◌≤◌, false, true, is_none, length, IfSome, List, [], Ok, None, OnErr, IfOk, IfErr, MatchResult};
 ghost use Rattle.sf_world.specs.Counts.{Rose};
+ghost use Rattle.sf_world.specs.Views.{Unchanged};
 ghost use Rattle.sf_coded.specs.declared.types.CodedFault.TheVariants.{ReadFault};
 ghost use Rattle.sf_coded.specs.declared.types.CodedSample.{CodedSample};
-ghost use Rattle.sf_coded.specs.Progress.{ReadCause, NextTold, Moves, Stands, Follows, RefusesBy, SampleAt};
+ghost use Rattle.sf_coded.specs.Progress.{Follows, HasRead, Moves, NextTold, ReadOn, RefusesBy, SampleAt};
 
 use crate::blocks::Blocks;
 use crate::fields::Turn;
@@ -25,30 +26,26 @@ pub struct Coded<S: Source> {
 
 impl<S: Source> Model for Coded<S> {
     ghost use Rattle.std.specs.Prelude.{◌≡◌, ◌≤◌, true, length};
-    ghost use Rattle.sf_coded.specs.Progress.{Progress, progress_code, OverAt};
+    ghost use Rattle.sf_coded.specs.Progress.{Progress, OverAt};
 
-    ghost Value = { Progress S };
-
-    ghost coded = { progress_code S.code };
+    ghost Value = { Progress };
 
     ghost view = { λ c. record { setup = c.setup; place = c.place; is_over = c.is_over; source = c.blocks } };
 
-    ghost invariant = { λ c. (length c.setup.config ≤ 65536) × (c.place ≤ S.size c.blocks) × (c.is_over ≡ true → OverAt (S.contents c.blocks) c.place) };
+    ghost invariant = { λ c. (length c.setup.config ≤ 65536) × (c.place ≤ c.blocks.size) × (c.is_over ≡ true → OverAt c.blocks.content c.place) };
 }
 
 impl<S: Source> Coded<S> {
     /// Reads the header. After a refusal the source comes back.
     pub fn begin(alloc: Global, source: S) -> Result<Coded<S>, (S, CodedFault)>
-        ensures stands { IfOk result (λ v. Stands (S.contents source) v.setup [] v.place) }
-        ensures refusal { IfErr result (λ e. RefusesBy (S.contents source) e.1) }
+        ensures read { IfOk result (λ v. HasRead [] v) }
+        ensures refusal { IfErr result (λ e. RefusesBy (S.seen source).content e.1) }
         ensures place { IfOk result (λ v. v.place ≡ 22 + length v.setup.config) }
         ensures bound { IfOk result (λ v. length v.setup.config ≤ 65536) }
-        ensures within { IfOk result (λ v. v.place ≤ S.size v.source) }
+        ensures within { IfOk result (λ v. v.place ≤ v.source.size) }
         ensures fresh { IfOk result (λ v. v.is_over ≡ false) }
-        ensures contents { MatchResult result (λ v. S.contents v.source ≡ S.contents source) (λ e. S.contents e.0 ≡ S.contents source) }
-        ensures size { MatchResult result (λ v. S.size v.source ≡ S.size source) (λ e. S.size e.0 ≡ S.size source) }
-        ensures later { MatchResult result (λ v. S.measure source ≤ S.measure v.source) (λ e. S.measure source ≤ S.measure e.0) }
-        ensures cause { IfErr result (λ e. e.1 ≡ ReadFault → Rose (S.measure source) (S.measure e.0)) }
+        ensures source { MatchResult result (λ v. Unchanged (S.seen source) v.source) (λ e. Unchanged (S.seen source) (S.seen e.0)) }
+        ensures cause { IfErr result (λ e. e.1 ≡ ReadFault → Rose (S.seen source).faults (S.seen e.0).faults) }
     {
         let mut blocks = match Blocks::new(alloc, source) {
             Ok(opened) => opened,
@@ -80,32 +77,28 @@ impl<S: Source> Coded<S> {
     /// The next sample, or none where the end of the file was reached: at the tag 0 with nothing after it.
     /// After a fault the same record is read again.
     pub fn next(&mut self) -> Result<Option<CodedSample>, CodedFault>
-        ensures told { NextTold (S.contents self.old.source) self.old.place result }
-        ensures stands { (samples : List CodedSample) → Stands (S.contents self.old.source) self.old.setup samples self.old.place
-            → Follows (S.contents self.new.source) self.new.setup samples self.new.place result }
-        ensures moves { Moves self.old.place (S.size self.old.source) self.new.place result }
+        ensures told { NextTold self.old.source.content self.old.place result }
+        ensures read { (samples : List CodedSample) → HasRead samples self.old
+            → Follows self.new.source.content self.new.setup samples self.new.place result }
+        ensures moves { Moves self.old.place self.old.source.size self.new.place result }
         ensures over { IfOk result (λ found. self.new.is_over ≡ is_none found) }
         ensures kept { OnErr result (self.new.is_over ≡ self.old.is_over) }
         ensures again { self.old.is_over ≡ true → (result ≡ Ok None) × (self.new ≡ self.old) }
         ensures setup { self.new.setup ≡ self.old.setup }
-        ensures contents { S.contents self.new.source ≡ S.contents self.old.source }
-        ensures size { S.size self.new.source ≡ S.size self.old.source }
-        ensures cause { ReadCause (S.measure self.old.source) (S.measure self.new.source) result }
+        ensures source { ReadOn self.old.source self.new.source result }
     {
         self.go_on()
     }
 
     // One step along the records.
     fn go_on(&mut self) -> Result<Option<CodedSample>, CodedFault>
-        ensures told { NextTold (S.contents self.old.source) self.old.place result }
-        ensures moves { Moves self.old.place (S.size self.old.source) self.new.place result }
+        ensures told { NextTold self.old.source.content self.old.place result }
+        ensures moves { Moves self.old.place self.old.source.size self.new.place result }
         ensures over { IfOk result (λ found. self.new.is_over ≡ is_none found) }
         ensures kept { OnErr result (self.new.is_over ≡ self.old.is_over) }
         ensures again { self.old.is_over ≡ true → (result ≡ Ok None) × (self.new ≡ self.old) }
         ensures setup { self.new.setup ≡ self.old.setup }
-        ensures contents { S.contents self.new.source ≡ S.contents self.old.source }
-        ensures size { S.size self.new.source ≡ S.size self.old.source }
-        ensures cause { ReadCause (S.measure self.old.source) (S.measure self.new.source) result }
+        ensures source { ReadOn self.old.source self.new.source result }
     {
         if self.is_over {
             return Ok(None);
@@ -124,7 +117,7 @@ impl<S: Source> Coded<S> {
 
     /// The source alone.
     pub fn give_source(self) -> S
-        ensures { result ≡ self.source }
+        ensures { S.seen result ≡ self.source }
     {
         self.blocks.give_source()
     }
@@ -136,12 +129,10 @@ fn sample_at<S: Source>(
     alloc: Global,
     at: u64,
 ) -> Result<Option<CodedSample>, CodedFault>
-    requires { at ≤ S.size blocks.old }
-    ensures told { NextTold (S.contents blocks.old) at result }
-    ensures moves { IfOk result (λ found. IfSome found (λ s. SampleAt at (S.size blocks.old) (at + (22 + length s.sample.bytes)) s)) }
-    ensures contents { S.contents blocks.new ≡ S.contents blocks.old }
-    ensures size { S.size blocks.new ≡ S.size blocks.old }
-    ensures cause { ReadCause (S.measure blocks.old) (S.measure blocks.new) result }
+    requires { at ≤ blocks.old.size }
+    ensures told { NextTold blocks.old.content at result }
+    ensures moves { IfOk result (λ found. IfSome found (λ s. SampleAt at blocks.old.size (at + (22 + length s.sample.bytes)) s)) }
+    ensures source { ReadOn blocks.old blocks.new result }
 {
     match turn_at(blocks, at)? {
         Turn::End => Ok(None),

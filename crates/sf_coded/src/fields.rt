@@ -1,6 +1,6 @@
 ghost use Rattle.std.specs.Prelude.{◌≡◌, ℕ, ◌+◌, ◌^◌, ◌≤◌, ◌<◌, min, length, IfOk};
 ghost use Rattle.sf_coded.specs.CodedFile.{header_in, record_in};
-ghost use Rattle.sf_coded.specs.Steps.{HeaderFits};
+ghost use Rattle.sf_coded.specs.inner.Steps.{HeaderFits};
 
 use crate::types::CodedFault;
 use sf_box::{read_u16, read_u32, read_u64};

@@ -1,8 +1,8 @@
 ghost use Rattle.std.specs.Prelude.{◌≡◌, ℕ, ◌+◌, ◌-◌, ◌^◌, ◌≤◌, ◌<◌, min, length, OnOk, IfOk, IfErr, ◌⊎◌};
 ghost use Rattle.sf_coded.specs.declared.types.CodedFault.TheVariants.{ReadFault, NoMemory};
-ghost use Rattle.sf_coded.specs.Window.{AreFrom};
-ghost use Rattle.sf_coded.specs.Progress.{ReadCause};
-ghost use Rattle.sf_coded.specs.Steps.{TurnTold, TurnFits, HeaderTold, HeaderFits, SetupTold, SetupFits};
+ghost use Rattle.sf_coded.specs.inner.Window.{AreFrom};
+ghost use Rattle.sf_coded.specs.Progress.{ReadOn};
+ghost use Rattle.sf_coded.specs.inner.Steps.{TurnTold, TurnFits, HeaderTold, HeaderFits, SetupTold, SetupFits};
 
 use crate::blocks::{Blocks, zeros};
 use crate::fields::{Header, Turn, read_header, read_record};
@@ -19,13 +19,11 @@ pub fn bytes_at<S: Source>(
     at: u64,
     len: u32,
 ) -> Result<Bytes, CodedFault>
-    requires { at + len ≤ S.size blocks.old }
+    requires { at + len ≤ blocks.old.size }
     ensures len { IfOk result (λ b. length b ≡ len) }
-    ensures bytes { IfOk result (λ b. AreFrom (S.contents blocks.old) at b) }
+    ensures bytes { IfOk result (λ b. AreFrom blocks.old.content at b) }
     ensures fault { IfErr result (λ f. (f ≡ ReadFault) ⊎ (f ≡ NoMemory)) }
-    ensures contents { S.contents blocks.new ≡ S.contents blocks.old }
-    ensures size { S.size blocks.new ≡ S.size blocks.old }
-    ensures cause { ReadCause (S.measure blocks.old) (S.measure blocks.new) result }
+    ensures source { ReadOn blocks.old blocks.new result }
 {
     let mut bytes = zeros(alloc, len as usize)?;
     blocks.read(at, &mut bytes)?;
@@ -34,12 +32,10 @@ pub fn bytes_at<S: Source>(
 
 /// What stands at a place of the records.
 pub fn turn_at<S: Source>(blocks: &mut Blocks<S>, at: u64) -> Result<Turn, CodedFault>
-    requires { at ≤ S.size blocks.old }
-    ensures told { TurnTold (S.contents blocks.old) at result }
-    ensures fits { IfOk result (λ turn. TurnFits at (S.size blocks.old) turn) }
-    ensures contents { S.contents blocks.new ≡ S.contents blocks.old }
-    ensures size { S.size blocks.new ≡ S.size blocks.old }
-    ensures cause { ReadCause (S.measure blocks.old) (S.measure blocks.new) result }
+    requires { at ≤ blocks.old.size }
+    ensures told { TurnTold blocks.old.content at result }
+    ensures fits { IfOk result (λ turn. TurnFits at blocks.old.size turn) }
+    ensures source { ReadOn blocks.old blocks.new result }
 {
     let room = blocks.size() - at;
     let mut fields = [0u8; 22];
@@ -51,11 +47,9 @@ pub fn turn_at<S: Source>(blocks: &mut Blocks<S>, at: u64) -> Result<Turn, Coded
 
 // The fields of the header.
 fn header_at<S: Source>(blocks: &mut Blocks<S>) -> Result<Header, CodedFault>
-    ensures told { HeaderTold (S.contents blocks.old) result }
-    ensures fits { IfOk result (λ h. HeaderFits (S.size blocks.old) h) }
-    ensures contents { S.contents blocks.new ≡ S.contents blocks.old }
-    ensures size { S.size blocks.new ≡ S.size blocks.old }
-    ensures cause { ReadCause (S.measure blocks.old) (S.measure blocks.new) result }
+    ensures told { HeaderTold blocks.old.content result }
+    ensures fits { IfOk result (λ h. HeaderFits blocks.old.size h) }
+    ensures source { ReadOn blocks.old blocks.new result }
 {
     let size = blocks.size();
     let mut fields = [0u8; 22];
@@ -67,11 +61,9 @@ fn header_at<S: Source>(blocks: &mut Blocks<S>) -> Result<Header, CodedFault>
 
 /// The setup that the header states.
 pub fn read_setup<S: Source>(blocks: &mut Blocks<S>, alloc: Global) -> Result<Setup, CodedFault>
-    ensures told { SetupTold (S.contents blocks.old) result }
-    ensures fits { IfOk result (λ setup. SetupFits (S.size blocks.old) setup) }
-    ensures contents { S.contents blocks.new ≡ S.contents blocks.old }
-    ensures size { S.size blocks.new ≡ S.size blocks.old }
-    ensures cause { ReadCause (S.measure blocks.old) (S.measure blocks.new) result }
+    ensures told { SetupTold blocks.old.content result }
+    ensures fits { IfOk result (λ setup. SetupFits blocks.old.size setup) }
+    ensures source { ReadOn blocks.old blocks.new result }
 {
     let header = header_at(blocks)?;
     let config = bytes_at(blocks, alloc, 22, header.config_len)?;

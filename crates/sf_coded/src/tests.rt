@@ -1,5 +1,5 @@
 ghost use Rattle.std.specs.Prelude.{◌≡◌, [], None, IfOk};
-ghost use Rattle.sf_coded.specs.Progress.{Stands, EndsSo};
+ghost use Rattle.sf_coded.specs.Progress.{EndsSo, HasRead};
 
 use super::*;
 use sf_box::{put_bytes, put_u16, put_u32, put_u64};
@@ -361,7 +361,7 @@ fn all_samples<S: Source>(
     alloc: Global,
     coded: &mut Coded<S>,
 ) -> Result<Vec<CodedSample>, CodedFault>
-    ensures { Stands (S.contents coded.old.source) coded.old.setup [] coded.old.place → IfOk result (λ v. EndsSo (S.contents coded.new.source) coded.new.setup v.items None) }
+    ensures { HasRead [] coded.old → IfOk result (λ v. EndsSo coded.new.source.content coded.new.setup v.items None) }
 {
     let mut samples = Vec::new(alloc);
     loop {

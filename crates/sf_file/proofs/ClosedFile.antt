@@ -5,18 +5,18 @@ use Rattle.std.proofs.lemmas.List.Concat.{flat_map-append}
 use Rattle.std.proofs.Math.Nat.{zero-div}
 use Rattle.sf_box.specs.Boxes.{be32, be64, box_of, wide_box}
 use Rattle.sf_box.specs.Parts.{Part, tiled}
-use Rattle.sf_box.proofs.Numbers.{length-be64, length-box_of}
-use Rattle.sf_box.proofs.Parts.{length-tiled-nil}
+use Rattle.sf_box.proofs.BoxLaws.{length-be64, length-box_of, length-tiled-nil}
 use Rattle.sf_tick.specs.declared.types.Stored.{Stored}
 use Rattle.sf_tick.specs.declared.types.Chunk.{Chunk}
 use Rattle.sf_world.specs.Contents.{grown, patched}
+use Rattle.sf_world.proofs.GrownLemmas.{grown_twice}
 use Rattle.sf_meaning.specs.Stbl.{Row, duration_in_rows, stbl_parts, stsd_body, stts_body, stsz_body, stsc_body, stco_body}
 use Rattle.sf_meaning.specs.Layout.{samples_of, stored_bytes, ftyp_body, rows_from, rows_of, row_at, first_dts, layout}
 use Rattle.sf_gather.specs.declared.given.LastSample.{LastSample}
 use Rattle.sf_gather.specs.Accepting.{last_from, last_of}
-use Rattle.sf_gather.proofs.Accepted.{last_from-append}
+use Rattle.sf_gather.proofs.GatherLaws.{last_from-append}
 use Rattle.sf_tables.specs.Rows.{TrackTables, first_dts_with, with_chunk}
-use Rattle.sf_file.specs.Movie.{microseconds, minf_with, mdia_with, trak_with, moov_with, movie_box, stbl_box, file_head}
+use Rattle.sf_file.specs.Movie.{microseconds, moov_with, movie_box, stbl_box, file_head}
 use Rattle.sf_file.specs.Open.{OpenFile, Stands, Appendable, Sound, IsEmpty, opened, start_of, closing_box, closing_box_with}
 use Rattle.sf_file.proofs.Lengths.{extra, length-box, length_moov}
 use Rattle.sf_file.proofs.Room.{Grows, grows_seen, rows_short}
@@ -58,8 +58,8 @@ start_first (s ∷ ss) = refl
 -- a file's bytes: its head, the samples' bytes, and the movie box
 layout_is : (scale : ℕ) (entry : List ℕ) (chunks : List Chunk)
     → layout scale entry chunks ≡ file_head (16 + length (stored_bytes (samples_of chunks))) ++ (stored_bytes (samples_of chunks) ++ movie_box scale entry (first_dts (samples_of chunks)) (rows_of chunks))
-unfolding layout file_head movie_box wide_box moov_with mdia_with minf_with trak_with tiled
-layout_is scale entry chunks = simp (append_assoc, append-nil)
+unfolding layout file_head wide_box
+layout_is scale entry chunks = simp append_assoc
 
 pub length_head : (n : ℕ) → length (file_head n) ≡ 40
 unfolding file_head box_of be32 be64
@@ -72,47 +72,43 @@ length_layout scale entry chunks rows start r s =
     let box : List ℕ = movie_box scale entry (first_dts (samples_of chunks)) (rows_of chunks) in
     rw (r, s) (omega (arith, ap (λ (b : List ℕ). length b) (layout_is scale entry chunks), length-append (file_head (16 + length stored)) (stored ++ box), length-append stored box, length_head (16 + length stored)))
 
-pub stands_length : {S : Type 0} {contents : S → Option (List ℕ)} {begun : Option (List ℕ)} {chunks : List Chunk} {file : OpenFile S} → Stands contents begun chunks file
+pub stands_length : {begun : Option (List ℕ)} {chunks : List Chunk} {file : OpenFile} → Stands begun chunks file
     → length (layout file.scale file.entry chunks) ≡ file.end + length (closing_box file)
-stands_length {S} {contents} {begun} {chunks} {file} s =
+stands_length {begun} {chunks} {file} s =
     let l = length_layout file.scale file.entry chunks file.tables.rows (start_of file.tables.first_dts) s.rows (ap start_of s.first ∙ start_first (samples_of chunks)) in
     omega (arith, l, s.end)
 
 -- the rows and the start of a file with one more chunk
-pub rows_more : {S : Type 0} {contents : S → Option (List ℕ)} {begun : Option (List ℕ)} {chunks : List Chunk} {file : OpenFile S} (c : Chunk) → Stands contents begun chunks file
+pub rows_more : {begun : Option (List ℕ)} {chunks : List Chunk} {file : OpenFile} (c : Chunk) → Stands begun chunks file
     → with_chunk file.tables.rows file.end c ≡ rows_of (chunks ++ c ∷ [])
-rows_more {S} {contents} {begun} {chunks} {file} c s =
+rows_more {begun} {chunks} {file} c s =
     ap (λ (rs : List Row). rs ++ row_at file.end c ∷ []) s.rows ∙ ap (λ (p : ℕ). rows_of chunks ++ row_at p c ∷ []) s.end ∙ sym (rows_from_more 40 chunks c)
 
-pub firsts_more : {S : Type 0} {contents : S → Option (List ℕ)} {begun : Option (List ℕ)} {chunks : List Chunk} {file : OpenFile S} (c : Chunk) → Stands contents begun chunks file
+pub firsts_more : {begun : Option (List ℕ)} {chunks : List Chunk} {file : OpenFile} (c : Chunk) → Stands begun chunks file
     → first_dts_with file.tables.first_dts c.samples ≡ first_dts_with None (samples_of (chunks ++ c ∷ []))
-firsts_more {S} {contents} {begun} {chunks} {file} c s =
+firsts_more {begun} {chunks} {file} c s =
     ap (λ (f : Option ℕ). first_dts_with f c.samples) s.first ∙ sym (first_more None (samples_of chunks) c.samples)
     ∙ ap (λ (ss : List Stored). first_dts_with None ss) (sym (samples_more chunks c))
 
-pub stands_length_with : {S : Type 0} {contents : S → Option (List ℕ)} {begun : Option (List ℕ)} {chunks : List Chunk} {file : OpenFile S} (c : Chunk) → Stands contents begun chunks file
+pub stands_length_with : {begun : Option (List ℕ)} {chunks : List Chunk} {file : OpenFile} (c : Chunk) → Stands begun chunks file
     → length (layout file.scale file.entry (chunks ++ c ∷ [])) ≡ file.end + length (stored_bytes c.samples) + length (closing_box_with file c)
-stands_length_with {S} {contents} {begun} {chunks} {file} c s =
+stands_length_with {begun} {chunks} {file} c s =
     let l = length_layout file.scale file.entry (chunks ++ c ∷ []) (with_chunk file.tables.rows file.end c) (start_of (first_dts_with file.tables.first_dts c.samples))
     (rows_more c s) (ap start_of (firsts_more c s) ∙ start_first (samples_of (chunks ++ c ∷ []))) in
     omega (arith, l, s.end, length_more chunks c)
-
-grown_twice : (before : Option (List ℕ)) (a b : List ℕ) → grown (grown before a) b ≡ grown before (a ++ b)
-grown_twice None a b = refl
-grown_twice (Some bytes) a b = ap (λ (bs : List ℕ). Some bs) (append_assoc bytes a b)
 
 opened_more : (chunks : List Chunk) (c : Chunk) → opened (chunks ++ c ∷ []) ≡ opened chunks ++ stored_bytes c.samples
 opened_more chunks c =
     ap (λ (b : List ℕ). file_head 16 ++ b) (stored_more chunks c) ∙ sym (append_assoc (file_head 16) (stored_bytes (samples_of chunks)) (stored_bytes c.samples))
 
 -- A file behind one more chunk holds it.
-pub stands_more : {S : Type 0} {contents : S → Option (List ℕ)} {begun : Option (List ℕ)} {chunks : List Chunk} {file after : OpenFile S} (tables : TrackTables) (c : Chunk)
-    → Stands contents begun chunks file → tables.rows ≡ file.tables.rows → tables.first_dts ≡ file.tables.first_dts
+pub stands_more : {begun : Option (List ℕ)} {chunks : List Chunk} {file after : OpenFile} (tables : TrackTables) (c : Chunk)
+    → Stands begun chunks file → tables.rows ≡ file.tables.rows → tables.first_dts ≡ file.tables.first_dts
     → after.tables.rows ≡ with_chunk tables.rows file.end c → after.tables.first_dts ≡ first_dts_with tables.first_dts c.samples
     → after.last ≡ last_from file.last c.samples → after.end ≡ file.end + length (stored_bytes c.samples)
-    → contents after.sink ≡ grown (contents file.sink) (stored_bytes c.samples)
-    → Stands contents begun (chunks ++ c ∷ []) after
-stands_more {S} {contents} {begun} {chunks} {file} {after} tables c s rows first rows_after first_after last end told =
+    → after.sink.content ≡ grown file.sink.content (stored_bytes c.samples)
+    → Stands begun (chunks ++ c ∷ []) after
+stands_more {begun} {chunks} {file} {after} tables c s rows first rows_after first_after last end told =
     record {
       rows = rows_after ∙ ap (λ (rs : List Row). with_chunk rs file.end c) rows ∙ rows_more c s;
       first = first_after ∙ ap (λ (f : Option ℕ). first_dts_with f c.samples) first ∙ firsts_more c s;
@@ -159,10 +155,10 @@ closed_told scale entry chunks (Some []) n box i e b =
 closed_told scale entry chunks (Some (x ∷ xs)) n box i e b = cc
 
 -- A file that is closed is laid out.
-pub stands_closed : {S : Type 0} {contents : S → Option (List ℕ)} {begun : Option (List ℕ)} {chunks : List Chunk} {file : OpenFile S} {written after : Option (List ℕ)} (n : ℕ) (box : List ℕ)
-    → IsEmpty begun → Stands contents begun chunks file → n ≡ file.end - 24 → box ≡ closing_box file → written ≡ grown (contents file.sink) box → after ≡ patched written 32 (be64 n)
+pub stands_closed : {begun : Option (List ℕ)} {chunks : List Chunk} {file : OpenFile} {written after : Option (List ℕ)} (n : ℕ) (box : List ℕ)
+    → IsEmpty begun → Stands begun chunks file → n ≡ file.end - 24 → box ≡ closing_box file → written ≡ grown file.sink.content box → after ≡ patched written 32 (be64 n)
     → after ≡ grown begun (layout file.scale file.entry chunks)
-stands_closed {S} {contents} {begun} {chunks} {file} {written} {after} n box i s e b w p =
+stands_closed {begun} {chunks} {file} {written} {after} n box i s e b w p =
     let size : n ≡ 16 + length (stored_bytes (samples_of chunks)) = omega (arith, e, s.end) in
     let start : start_of file.tables.first_dts ≡ first_dts (samples_of chunks) = ap start_of s.first ∙ start_first (samples_of chunks) in
     let same : box ≡ movie_box file.scale file.entry (first_dts (samples_of chunks)) (rows_of chunks) =
@@ -196,17 +192,17 @@ closes {scale} {entry} {tables} {last} {end} {size} s =
     }
 
 -- a file with one more chunk is sound
-pub sound_more : {S : Type 0} {view file : OpenFile S} {chunk : Chunk} {size size_after len : ℕ} (tables : TrackTables) {after : TrackTables} {last : Option LastSample} → view ≡ file
+pub sound_more : {view file : OpenFile} {chunk : Chunk} {size size_after len : ℕ} (tables : TrackTables) {after : TrackTables} {last : Option LastSample} → view ≡ file
     → Sound view.scale view.entry view.tables view.last view.end size → Appendable file chunk → length (closing_box_with file chunk) ≤ 2 ^ 28
     → tables.rows ≡ view.tables.rows → tables.first_dts ≡ view.tables.first_dts
     → after.rows ≡ with_chunk tables.rows view.end chunk → after.first_dts ≡ first_dts_with tables.first_dts chunk.samples
     → last ≡ last_from view.last chunk.samples → len ≡ length (stored_bytes chunk.samples) → 40 ≤ size_after
     → Sound view.scale view.entry after last (view.end + len) size_after
-sound_more {S} {view} {file} {chunk} {size} {size_after} {len} tables {after} {last} e s a box rows first rows_after first_after l n h =
+sound_more {view} {file} {chunk} {size} {size_after} {len} tables {after} {last} e s a box rows first rows_after first_after l n h =
     let g : Grows view.scale view.tables.rows view.last view.end chunk = grows_seen e s a in
     let rs : after.rows ≡ with_chunk view.tables.rows view.end chunk = rows_after ∙ ap (λ (r : List Row). with_chunk r view.end chunk) rows in
     let fs : after.first_dts ≡ first_dts_with view.tables.first_dts chunk.samples = first_after ∙ ap (λ (f : Option ℕ). first_dts_with f chunk.samples) first in
-    let boxed : length (closing_box_with view chunk) ≤ 2 ^ 28 = subst (λ (f : OpenFile S). length (closing_box_with f chunk) ≤ 2 ^ 28) (sym e) box in
+    let boxed : length (closing_box_with view chunk) ≤ 2 ^ 28 = subst (λ (f : OpenFile). length (closing_box_with f chunk) ≤ 2 ^ 28) (sym e) box in
     let far : 40 ≤ view.end = s.far in
     record {
       ticks = s.ticks;
@@ -214,7 +210,7 @@ sound_more {S} {view} {file} {chunk} {size} {size_after} {len} tables {after} {l
       room = rw rs g.room;
       behind = rw (rs, l) g.behind;
       timed = rw l g.timed;
-      few = rw rs (omega (arith, g.count, (subst (λ (f : OpenFile S). Appendable f chunk) (sym e) a).few));
+      few = rw rs (omega (arith, g.count, (subst (λ (f : OpenFile). Appendable f chunk) (sym e) a).few));
       near = rw rs (omega (arith, g.count, g.bytes, s.near, n));
       box = rw (rs, fs) boxed;
       far = omega (arith, far);
@@ -279,9 +275,9 @@ sound_empty scale entry tables size some le rows first h =
       head = h;
     }
 
-pub stands_empty : {S : Type 0} {contents : S → Option (List ℕ)} {begun : Option (List ℕ)} {file : OpenFile S} → file.tables.rows ≡ [] → file.tables.first_dts ≡ None → file.last ≡ None → file.end ≡ 40
-    → contents file.sink ≡ grown begun (file_head 16) → Stands contents begun [] file
-stands_empty {S} {contents} {begun} {file} rows first last end told =
+pub stands_empty : {begun : Option (List ℕ)} {file : OpenFile} → file.tables.rows ≡ [] → file.tables.first_dts ≡ None → file.last ≡ None → file.end ≡ 40
+    → file.sink.content ≡ grown begun (file_head 16) → Stands begun [] file
+stands_empty {begun} {file} rows first last end told =
     record { rows = rows; first = first; last = last; end = end; told = told ∙ ap (grown begun) (sym (append-nil (file_head 16))) }
 
 -- the length of a movie box, from what the writer counted
@@ -293,8 +289,8 @@ box_made scale entry start rows {stbl} {duration} {result} d e made =
     made start (stbl_parts entry rows) (e ∙ sym (length-box_of (codes "stbl") (tiled (stbl_parts entry rows)) refl))
     ∙ ap (λ (t : ℕ). length (box_of (codes "moov") (tiled (moov_with scale t start (stbl_parts entry rows))))) d
 
-pub sized_as : {S : Type 0} {view file : OpenFile S} {n : ℕ} → view ≡ file → n ≡ length (closing_box view) → view.end + n ≡ file.end + length (closing_box file)
-sized_as {S} {view} {file} {n} e made = subst (λ (f : OpenFile S). view.end + n ≡ f.end + length (closing_box f)) e (ap (λ (k : ℕ). view.end + k) made)
+pub sized_as : {view file : OpenFile} {n : ℕ} → view ≡ file → n ≡ length (closing_box view) → view.end + n ≡ file.end + length (closing_box file)
+sized_as {view} {file} {n} e made = subst (λ (f : OpenFile). view.end + n ≡ f.end + length (closing_box f)) e (ap (λ (k : ℕ). view.end + k) made)
 
 -- the same from the length of the sample table box
 pub box_made_with : (scale : ℕ) (entry : List ℕ) (start : ℕ) (rows : List Row) {stbl duration result : ℕ} → duration ≡ duration_in_rows rows → stbl ≡ length (stbl_box entry rows)
@@ -302,9 +298,9 @@ pub box_made_with : (scale : ℕ) (entry : List ℕ) (start : ℕ) (rows : List 
     → result ≡ length (movie_box scale entry start rows)
 box_made_with scale entry start rows d e made = box_made scale entry start rows d (e ∙ stbl_is entry rows) made
 
-pub sized_with_as : {S : Type 0} {view file : OpenFile S} {b n : ℕ} (c : Chunk) → view ≡ file → b ≡ length (stored_bytes c.samples) → n ≡ length (closing_box_with file c)
+pub sized_with_as : {view file : OpenFile} {b n : ℕ} (c : Chunk) → view ≡ file → b ≡ length (stored_bytes c.samples) → n ≡ length (closing_box_with file c)
     → view.end + b + n ≡ file.end + length (stored_bytes c.samples) + length (closing_box_with file c)
-sized_with_as {S} {view} {file} {b} {n} c e be ne = omega (arith, ap (λ (f : OpenFile S). f.end) e, be, ne)
+sized_with_as {view} {file} {b} {n} c e be ne = omega (arith, ap (λ (f : OpenFile). f.end) e, be, ne)
 
 pub stbl_of : {stbl : ℕ} (entry : List ℕ) (rows : List Row) → stbl ≡ 8 + length (tiled (stbl_parts entry rows)) → stbl ≡ length (stbl_box entry rows)
 stbl_of entry rows e = e ∙ sym (stbl_is entry rows)

@@ -5,7 +5,7 @@ use Rattle.sf_tick.specs.declared.types.Stored.{Stored}
 use Rattle.sf_tick.specs.declared.types.Chunk.{Chunk}
 use Rattle.sf_meaning.specs.Stbl.{Row, timed_of}
 use Rattle.sf_meaning.specs.Layout.{samples_of, rows_from, timed}
-use Rattle.sf_meaning.proofs.ChunkLemmas.{timed_rows}
+use Rattle.sf_meaning.proofs.MeaningLaws.{timed_rows}
 use Rattle.sf_file.specs.Open.{OpenFile, Stands}
 use Rattle.sf_file.proofs.ClosedFile.{samples_more}
 
@@ -13,14 +13,14 @@ use Rattle.sf_file.proofs.ClosedFile.{samples_more}
 length_rows : (place : ℕ) (chunks : List Chunk) → length (timed_of (rows_from place chunks)) ≡ length (samples_of chunks)
 length_rows place chunks = ap length (timed_rows place chunks) ∙ length-map (samples_of chunks) timed
 
-pub stands_count : {S : Type 0} {contents : S → Option (List ℕ)} {begun : Option (List ℕ)} {chunks : List Chunk} {file : OpenFile S} → Stands contents begun chunks file
+pub stands_count : {begun : Option (List ℕ)} {chunks : List Chunk} {file : OpenFile} → Stands begun chunks file
     → length (timed_of file.tables.rows) ≡ length (samples_of chunks)
-stands_count {S} {contents} {begun} {chunks} {file} s = ap (λ (rs : List Row). length (timed_of rs)) s.rows ∙ length_rows 40 chunks
+stands_count {begun} {chunks} {file} s = ap (λ (rs : List Row). length (timed_of rs)) s.rows ∙ length_rows 40 chunks
 
 pub length_samples_more : (chunks : List Chunk) (c : Chunk) → length (samples_of (chunks ++ c ∷ [])) ≡ length (samples_of chunks) + length c.samples
 length_samples_more chunks c = ap (λ (ss : List Stored). length ss) (samples_more chunks c) ∙ length-append (samples_of chunks) c.samples
 
 -- with one more chunk
-pub stands_count_with : {S : Type 0} {contents : S → Option (List ℕ)} {begun : Option (List ℕ)} {chunks : List Chunk} {file : OpenFile S} (c : Chunk) → Stands contents begun chunks file
+pub stands_count_with : {begun : Option (List ℕ)} {chunks : List Chunk} {file : OpenFile} (c : Chunk) → Stands begun chunks file
     → length (timed_of file.tables.rows) + length c.samples ≡ length (samples_of (chunks ++ c ∷ []))
-stands_count_with {S} {contents} {begun} {chunks} {file} c s = omega (arith, stands_count s, length_samples_more chunks c)
+stands_count_with {begun} {chunks} {file} c s = omega (arith, stands_count s, length_samples_more chunks c)

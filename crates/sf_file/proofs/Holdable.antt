@@ -1,39 +1,22 @@
 -- Chunks that a file can hold can be written.
-use Rattle.std.proofs.Common.{◌≡◌, ℕ, ◌+◌, ◌-◌, ◌*◌, ◌/◌, ◌^◌, ◌<◌, ◌≤◌, List, [], ◌∷◌, ◌++◌, length, map, sum, codes, Option, Some, None, refl, sym, ap, ◌∙◌, arith}
+use Rattle.std.proofs.Common.{◌≡◌, ℕ, ◌+◌, ◌-◌, ◌*◌, ◌/◌, ◌^◌, ◌<◌, ◌≤◌, List, [], ◌∷◌, ◌++◌, sum, Option, Some, None, IfSome, ap, arith}
 use Rattle.std.specs.List.{AllByRecursion}
-use Rattle.std.proofs.lemmas.List.{map-append}
 use Rattle.std.proofs.lemmas.List.Sums.{sum_by-cons}
 use Rattle.std.proofs.Math.Nat.{div-lt_iff_lt-mul}
-use Rattle.sf_box.specs.Parts.{tiled}
-use Rattle.sf_box.proofs.Numbers.{length-box_of}
 use Rattle.sf_tick.specs.Tick.{tick}
-use Rattle.sf_tick.proofs.Ticks.{tick_rises}
+use Rattle.sf_tick.proofs.TickLaws.{tick_rises}
 use Rattle.sf_tick.specs.declared.types.Stored.{Stored}
 use Rattle.sf_tick.specs.declared.types.Chunk.{Chunk}
-use Rattle.sf_meaning.specs.Stbl.{Timed, timed_of, ticks_of, differences, deltas_of}
+use Rattle.sf_meaning.specs.Stbl.{differences, deltas_of}
 use Rattle.sf_meaning.specs.Entry.{aac_entry}
-use Rattle.sf_meaning.specs.Layout.{samples_of, stored_bytes, decodes_of, timed, rows_from, rows_of, first_dts, duration_of, moov_parts}
+use Rattle.sf_meaning.specs.Layout.{samples_of, decodes_of, first_dts, duration_of}
+use Rattle.sf_meaning.proofs.MeaningLaws.{ticks_rows}
 use Rattle.sf_meaning.specs.Writable.{IsWritable, Paced, PacedFrom, Writable}
 use Rattle.sf_gather.specs.declared.given.LastSample.{LastSample}
 use Rattle.sf_gather.specs.Accepting.{kept_of}
 use Rattle.sf_gather.specs.Proper.{AllFollow}
-use Rattle.sf_file.specs.Movie.{minf_with, mdia_with, trak_with, moov_with, movie_box}
-use Rattle.sf_file.specs.Holdable.{IsEarly, Holdable}
+use Rattle.sf_file.specs.Holdable.{IsEarly, IsBrief, Holdable}
 use Rattle.sf_file.proofs.Room.{late_by, early_by, follow_short, short_sum}
-
--- the ticks of the rows are those of the samples
-decodes_timed : (ss : List Stored) → map (λ (s : Timed). s.decode) (map timed ss) ≡ decodes_of ss
-decodes_timed [] = refl
-decodes_timed (s ∷ ss) = ap (λ (ts : List ℕ). s.decode ∷ ts) (decodes_timed ss)
-
-ticks_from : (place : ℕ) (chunks : List Chunk) → ticks_of (rows_from place chunks) ≡ decodes_of (samples_of chunks)
-ticks_from place [] = refl
-ticks_from place (c ∷ cs) =
-    let rest : ℕ = place + length (stored_bytes c.samples) in
-    map-append (λ (s : Timed). s.decode) (map timed c.samples) (timed_of (rows_from rest cs))
-    ∙ ap (λ (ts : List ℕ). map (λ (s : Timed). s.decode) (map timed c.samples) ++ ts) (ticks_from rest cs)
-    ∙ ap (λ (ts : List ℕ). ts ++ decodes_of (samples_of cs)) (decodes_timed c.samples)
-    ∙ sym (map-append (λ (s : Stored). s.decode) c.samples (samples_of cs))
 
 writable_each : (scale : ℕ) (last : Option LastSample) (ss : List Stored) → AllFollow scale last ss → AllByRecursion IsWritable ss
 writable_each scale last [] f = tt
@@ -53,9 +36,9 @@ paced_first : (scale : ℕ) (ss : List Stored) → AllFollow scale None ss → P
 paced_first scale [] f = tt
 paced_first scale (s ∷ ss) f = (f.0.decode, paced_behind scale (kept_of s) ss f.0.decode f.1)
 
-early_first : (ss : List Stored) → AllByRecursion IsEarly ss → first_dts ss ≤ 2 ^ 30
-early_first [] a = omega arith
-early_first (s ∷ ss) a = a.0
+first_in_time : (scale : ℕ) (ss : List Stored) → AllFollow scale None ss → first_dts ss ≤ 2 ^ 48
+first_in_time scale [] f = omega arith
+first_in_time scale (s ∷ ss) f = f.0.time
 
 -- the ticks of early samples
 early_ticks : (scale : ℕ) (last : Option LastSample) (ss : List Stored) → AllFollow scale last ss → AllByRecursion IsEarly ss → AllByRecursion (λ t. t ≤ tick (2 ^ 30) scale) (decodes_of ss)
@@ -79,30 +62,49 @@ duration_within bound start (t ∷ ts) p a = omega (arith, sum_within bound 0 t 
 brief : (scale d : ℕ) → 1 ≤ scale → d ≤ 2 * tick (2 ^ 30) scale → d * 1000000 / scale < 2 ^ 32 - 1
 brief scale d some le = (div-lt_iff_lt-mul some).1 (omega (arith, le, some))
 
-moov_is : (scale : ℕ) (chunks : List Chunk) → length (movie_box scale aac_entry (first_dts (samples_of chunks)) (rows_of chunks)) ≡ 8 + length (tiled (moov_parts scale aac_entry chunks))
-unfolding movie_box moov_with trak_with mdia_with minf_with
-moov_is scale chunks = length-box_of (codes "moov") (tiled (moov_parts scale aac_entry chunks)) refl
+-- early samples last shortly
+pub early_brief : (scale : ℕ) (chunks : List Chunk) → 1 ≤ scale → scale ≤ 1000000 → AllFollow scale None (samples_of chunks) → AllByRecursion IsEarly (samples_of chunks)
+    → IsBrief scale (duration_of chunks)
+early_brief scale chunks some rate follow early =
+    let ss : List Stored = samples_of chunks in
+    let bound : ℕ = tick (2 ^ 30) scale in
+    let paced : PacedFrom (tick (first_dts ss) scale) (decodes_of ss) = paced_first scale ss follow in
+    let within : sum (deltas_of (decodes_of ss)) ≤ 2 * bound = duration_within bound (tick (first_dts ss) scale) (decodes_of ss) paced (early_ticks scale None ss follow early) in
+    let same : duration_of chunks ≡ sum (deltas_of (decodes_of ss)) = ap (λ (ts : List ℕ). sum (deltas_of ts)) (ticks_rows 40 chunks) in
+    let lasts : duration_of chunks ≤ 2 * bound = omega (arith, same, within) in
+    record { ticks = omega (arith, lasts, rate); us = brief scale (duration_of chunks) some lasts }
+
+-- no sample is decoded after one that follows it
+not_after : (scale : ℕ) (last : Option LastSample) (xs : List Stored) (s : Stored) (ys : List Stored) → AllFollow scale last (xs ++ s ∷ ys) → IfSome last (λ l. l.dts_us ≤ s.dts_us)
+not_after scale None xs s ys f = tt
+not_after scale (Some l) [] s ys f = f.0.rises
+not_after scale (Some l) (x ∷ xs) s ys f =
+    let rises : l.dts_us ≤ x.dts_us = f.0.rises in
+    let more : x.dts_us ≤ s.dts_us = not_after scale (Some (kept_of x)) xs s ys f.1 in
+    omega (arith, rises, more)
+
+-- samples in front of an early one are early
+pub front_early : (scale : ℕ) (last : Option LastSample) (xs : List Stored) (s : Stored) (ys : List Stored) → AllFollow scale last (xs ++ s ∷ ys) → IsEarly s
+    → AllByRecursion IsEarly xs
+front_early scale last [] s ys f early = tt
+front_early scale last (x ∷ xs) s ys f early =
+    let more : x.dts_us ≤ s.dts_us = not_after scale (Some (kept_of x)) xs s ys f.1 in
+    (omega (arith, more, early), front_early scale (Some (kept_of x)) xs s ys f.1 early)
 
 -- Chunks that a file can hold can be written.
 pub holdable_writable : (scale : ℕ) (chunks : List Chunk) → Holdable scale chunks → Writable scale aac_entry chunks
 holdable_writable scale chunks h =
     let ss : List Stored = samples_of chunks in
-    let bound : ℕ = tick (2 ^ 30) scale in
-    let paced : PacedFrom (tick (first_dts ss) scale) (decodes_of ss) = paced_first scale ss h.follow in
-    let within : sum (deltas_of (decodes_of ss)) ≤ 2 * bound = duration_within bound (tick (first_dts ss) scale) (decodes_of ss) paced (early_ticks scale None ss h.follow h.early) in
-    let same : duration_of chunks ≡ sum (deltas_of (decodes_of ss)) = ap (λ (ts : List ℕ). sum (deltas_of ts)) (ticks_from 40 chunks) in
-    let lasts : duration_of chunks ≤ 2 * bound = omega (arith, same, within) in
-    let start : first_dts ss ≤ 2 ^ 30 = early_first ss h.early in
     record {
       scale_some = h.ticks;
-      scale_fits = omega (arith, h.rate);
+      scale_fits = h.rate;
       filled = h.filled;
       each = writable_each scale None ss h.follow;
-      paced = paced;
-      start = omega (arith, start);
+      paced = paced_first scale ss h.follow;
+      start = omega (arith, first_in_time scale ss h.follow);
       few = h.few;
-      duration = omega (arith, lasts, h.rate);
-      length_us = brief scale (duration_of chunks) h.ticks lasts;
+      duration = h.brief.ticks;
+      length_us = h.brief.us;
       payload = omega (arith, h.few, short_sum ss (follow_short scale None ss h.follow));
-      moov = omega (arith, h.box, moov_is scale chunks);
+      moov = h.box;
     }

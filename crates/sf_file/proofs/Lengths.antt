@@ -3,8 +3,7 @@ use Rattle.std.proofs.Common.{◌≡◌, ℕ, ◌+◌, ◌*◌, true, false, Lis
 use Rattle.std.proofs.lemmas.List.{length-append}
 use Rattle.sf_box.specs.Boxes.{be32, be64, box_of}
 use Rattle.sf_box.specs.Parts.{Part, tiled}
-use Rattle.sf_box.proofs.Numbers.{length-be32, length-be64, length-box_of}
-use Rattle.sf_box.proofs.Parts.{length-tiled-cons, length-tiled-nil}
+use Rattle.sf_box.proofs.BoxLaws.{length-be32, length-be64, length-box_of, length-tiled-cons, length-tiled-nil}
 use Rattle.sf_meaning.specs.Stbl.{zeros}
 use Rattle.sf_meaning.specs.Layout.{is_long, duration_bytes, header_times, mvhd_body, tkhd_body, mdhd_body, hdlr_body, matrix, dref_body, in_dinf, in_udta}
 use Rattle.sf_file.specs.Movie.{microseconds, minf_with, mdia_with, trak_with, moov_with}

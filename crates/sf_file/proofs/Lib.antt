@@ -1,6 +1,5 @@
 pub mod Lengths
 pub mod Room
-pub mod FirstParts
 pub mod ClosedFile
 pub mod Holdable
 pub mod HoldableGrows

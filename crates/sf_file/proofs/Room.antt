@@ -7,7 +7,7 @@ use Rattle.std.proofs.lemmas.List.Concat.{flat_map-append}
 use Rattle.std.proofs.lemmas.List.Sums.{sum_by-cons}
 use Rattle.std.proofs.Math.Nat.{mul-le-mul_right, div-lt_iff_lt-mul}
 use Rattle.sf_tick.specs.Tick.{tick}
-use Rattle.sf_tick.proofs.Ticks.{tick_rises}
+use Rattle.sf_tick.proofs.TickLaws.{tick_rises}
 use Rattle.sf_tick.specs.declared.types.Stored.{Stored}
 use Rattle.sf_tick.specs.declared.types.Chunk.{Chunk}
 use Rattle.sf_meaning.specs.Stbl.{Timed, Row, timed_of, ticks_of, differences, deltas_of, duration_in_rows}
@@ -15,7 +15,7 @@ use Rattle.sf_meaning.specs.Layout.{stored_bytes, timed, row_at}
 use Rattle.sf_gather.specs.declared.given.LastSample.{LastSample}
 use Rattle.sf_gather.specs.Accepting.{kept_of, last_from}
 use Rattle.sf_gather.specs.Proper.{Follows, AllFollow}
-use Rattle.sf_gather.proofs.Accepted.{last_from-append}
+use Rattle.sf_gather.proofs.GatherLaws.{last_from-append}
 use Rattle.sf_tables.specs.Rows.{with_chunk, last_tick, last_in_rows, HasRoom, AllHaveRoom, Addable}
 use Rattle.sf_file.specs.Movie.{microseconds}
 use Rattle.sf_file.specs.Open.{last_ticks, IsTimed, OpenFile, Appendable, Sound}
@@ -133,7 +133,7 @@ pub record Grows (scale : ℕ) (rows : List Row) (last : Option LastSample) (pla
   pub bytes : length (stored_bytes chunk.samples) ≤ 2 ^ 25 * length chunk.samples
   pub each : AllByRecursion (λ s. length s.bytes ≤ 2 ^ 25) chunk.samples
 
-pub grows : {S : Type 0} (file : OpenFile S) (chunk : Chunk) (size : ℕ) → Sound file.scale file.entry file.tables file.last file.end size → Appendable file chunk
+pub grows : (file : OpenFile) (chunk : Chunk) (size : ℕ) → Sound file.scale file.entry file.tables file.last file.end size → Appendable file chunk
     → Grows file.scale file.tables.rows file.last file.end chunk
 grows file chunk size s a =
     let rows : List Row = file.tables.rows in
@@ -162,10 +162,10 @@ grows file chunk size s a =
     }
 
 -- the same of a file as it is seen
-pub grows_seen : {S : Type 0} {view file : OpenFile S} {chunk : Chunk} {size : ℕ} → view ≡ file
+pub grows_seen : {view file : OpenFile} {chunk : Chunk} {size : ℕ} → view ≡ file
     → Sound view.scale view.entry view.tables view.last view.end size → Appendable file chunk
     → Grows view.scale view.tables.rows view.last view.end chunk
-grows_seen {S} {view} {file} {chunk} {size} e s a = grows view chunk size s (subst (λ (f : OpenFile S). Appendable f chunk) (sym e) a)
+grows_seen {view} {file} {chunk} {size} e s a = grows view chunk size s (subst (λ (f : OpenFile). Appendable f chunk) (sym e) a)
 
 pub last_more : (before : Option LastSample) (xs : List Stored) (s : Stored) → last_from before (xs ++ s ∷ []) ≡ Some (kept_of s)
 last_more before xs s = last_from-append before xs (s ∷ [])

@@ -1,4 +1,3 @@
 pub mod Movie
 pub mod Open
-pub mod OpenCode
 pub mod Holdable

@@ -33,7 +33,7 @@ pub(crate) fn microseconds(scale: u32, duration: u64) -> u64
 }
 
 // Puts the media information box (8.4.4) with this sample table box.
-#[tactic(auto, using(sf_box::proofs::Numbers::length_facts), unfolding(sf_box::specs::Parts::tiled, crate::specs::Movie::minf_with))]
+#[tactic(auto, using(sf_box::proofs::BoxLaws::length_facts), unfolding(sf_box::specs::Parts::tiled, sf_meaning::specs::Layout::minf_with))]
 fn put_minf(out: &mut Bytes, stbl: &[u8]) -> Result<(), AllocError>
     requires { length stbl.now ≤ 2 ^ 28 }
     ensures put { OnOk result ((parts : List Part) → stbl.now ≡ box_of (codes "stbl") (tiled parts)
@@ -49,7 +49,7 @@ fn put_minf(out: &mut Bytes, stbl: &[u8]) -> Result<(), AllocError>
 }
 
 // Puts the media box (8.4.1).
-#[tactic(auto, using(sf_box::proofs::Numbers::length_facts), unfolding(sf_box::specs::Parts::tiled, crate::specs::Movie::mdia_with))]
+#[tactic(auto, using(sf_box::proofs::BoxLaws::length_facts), unfolding(sf_box::specs::Parts::tiled, sf_meaning::specs::Layout::mdia_with))]
 fn put_mdia(out: &mut Bytes, head: &TrackHead, stbl: &[u8]) -> Result<(), AllocError>
     requires { length stbl.now ≤ 2 ^ 28 }
     ensures put { OnOk result ((parts : List Part) → stbl.now ≡ box_of (codes "stbl") (tiled parts)
@@ -65,7 +65,7 @@ fn put_mdia(out: &mut Bytes, head: &TrackHead, stbl: &[u8]) -> Result<(), AllocE
 }
 
 // Puts the track box (8.3.1).
-#[tactic(auto, using(sf_box::proofs::Numbers::length_facts), unfolding(sf_box::specs::Parts::tiled, crate::specs::Movie::trak_with))]
+#[tactic(auto, using(sf_box::proofs::BoxLaws::length_facts), unfolding(sf_box::specs::Parts::tiled, sf_meaning::specs::Layout::trak_with))]
 fn put_trak(out: &mut Bytes, head: &TrackHead, stbl: &[u8]) -> Result<(), AllocError>
     requires scale { 1 ≤ head.now.scale }
     requires short { microseconds head.now.scale head.now.duration < 2 ^ 63 }
@@ -82,7 +82,7 @@ fn put_trak(out: &mut Bytes, head: &TrackHead, stbl: &[u8]) -> Result<(), AllocE
 }
 
 /// Puts the movie box (8.2.1) of a track with this head and this sample table box.
-#[tactic(auto, using(sf_box::proofs::Numbers::length_facts), unfolding(sf_box::specs::Parts::tiled, crate::specs::Movie::moov_with))]
+#[tactic(auto, using(sf_box::proofs::BoxLaws::length_facts), unfolding(sf_box::specs::Parts::tiled, sf_meaning::specs::Layout::moov_with))]
 pub(crate) fn put_moov(out: &mut Bytes, head: &TrackHead, stbl: &[u8]) -> Result<(), AllocError>
     requires scale { 1 ≤ head.now.scale }
     requires short { microseconds head.now.scale head.now.duration < 2 ^ 63 }

@@ -53,7 +53,7 @@ pub(crate) fn is_long(duration: u64) -> bool
 }
 
 // Puts a header's version and flags, and when it was made and changed, both not said.
-#[tactic(auto, using(sf_box::proofs::Numbers::length_facts))]
+#[tactic(auto, using(sf_box::proofs::BoxLaws::length_facts))]
 fn put_times(out: &mut Bytes, flags: u8, duration: u64) -> Result<(), AllocError>
     ensures put { OnOk result (out.new ≡ out.old ++ header_times flags duration) }
     ensures length { OnOk result (length out.new ≡ length out.old + (if is_long duration then 20 else 12)) }
@@ -71,7 +71,7 @@ fn put_times(out: &mut Bytes, flags: u8, duration: u64) -> Result<(), AllocError
 }
 
 // Puts a header's duration.
-#[tactic(auto, using(sf_box::proofs::Numbers::length_facts))]
+#[tactic(auto, using(sf_box::proofs::BoxLaws::length_facts))]
 fn put_duration(out: &mut Bytes, duration: u64) -> Result<(), AllocError>
     ensures put { OnOk result (out.new ≡ out.old ++ duration_bytes duration) }
     ensures length { OnOk result (length out.new ≡ length out.old + (if is_long duration then 8 else 4)) }
@@ -84,7 +84,7 @@ fn put_duration(out: &mut Bytes, duration: u64) -> Result<(), AllocError>
 }
 
 // Puts the bytes of a header up to its transformation, and that.
-#[tactic(auto, using(sf_box::proofs::Numbers::length_facts))]
+#[tactic(auto, using(sf_box::proofs::BoxLaws::length_facts))]
 fn put_with_matrix(out: &mut Bytes, before: &[u8; 16]) -> Result<(), AllocError>
     ensures put { OnOk result (out.new ≡ out.old ++ (before.now ++ matrix)) }
     ensures length { OnOk result (length out.new ≡ length out.old + 52) }
@@ -94,7 +94,7 @@ fn put_with_matrix(out: &mut Bytes, before: &[u8; 16]) -> Result<(), AllocError>
 }
 
 /// Puts the movie header box (8.2.2) of a movie that lasts so many microseconds.
-#[tactic(auto, using(sf_box::proofs::Numbers::length_facts))]
+#[tactic(auto, using(sf_box::proofs::BoxLaws::length_facts))]
 pub(crate) fn put_mvhd(out: &mut Bytes, length_us: u64) -> Result<(), AllocError>
     ensures put { OnOk result (out.new ≡ out.old ++ box_of (codes "mvhd") (mvhd_body length_us)) }
     ensures length { OnOk result (length out.new ≡ length out.old + (if is_long length_us then 120 else 108)) }
@@ -110,7 +110,7 @@ pub(crate) fn put_mvhd(out: &mut Bytes, length_us: u64) -> Result<(), AllocError
 }
 
 /// Puts the track header box (8.3.2) of a track that lasts so many microseconds.
-#[tactic(auto, using(sf_box::proofs::Numbers::length_facts))]
+#[tactic(auto, using(sf_box::proofs::BoxLaws::length_facts))]
 pub(crate) fn put_tkhd(out: &mut Bytes, length_us: u64) -> Result<(), AllocError>
     ensures put { OnOk result (out.new ≡ out.old ++ box_of (codes "tkhd") (tkhd_body length_us)) }
     ensures length { OnOk result (length out.new ≡ length out.old + (if is_long length_us then 104 else 92)) }
@@ -126,7 +126,7 @@ pub(crate) fn put_tkhd(out: &mut Bytes, length_us: u64) -> Result<(), AllocError
 }
 
 /// Puts the media header box (8.4.2) of a track with so many ticks a second that lasts so many ticks.
-#[tactic(auto, using(sf_box::proofs::Numbers::length_facts))]
+#[tactic(auto, using(sf_box::proofs::BoxLaws::length_facts))]
 pub(crate) fn put_mdhd(out: &mut Bytes, scale: u32, duration: u64) -> Result<(), AllocError>
     ensures put { OnOk result (out.new ≡ out.old ++ box_of (codes "mdhd") (mdhd_body scale duration)) }
     ensures length { OnOk result (length out.new ≡ length out.old + (if is_long duration then 44 else 32)) }
@@ -141,7 +141,7 @@ pub(crate) fn put_mdhd(out: &mut Bytes, scale: u32, duration: u64) -> Result<(),
 }
 
 /// Puts the data information box (8.7.1).
-#[tactic(auto, using(sf_box::proofs::Numbers::length_facts), unfolding(sf_box::specs::Parts::tiled))]
+#[tactic(auto, using(sf_box::proofs::BoxLaws::length_facts), unfolding(sf_box::specs::Parts::tiled))]
 pub(crate) fn put_dinf(out: &mut Bytes) -> Result<(), AllocError>
     ensures put { OnOk result (out.new ≡ out.old ++ box_of (codes "dinf") (tiled in_dinf)) }
     ensures length { OnOk result (length out.new ≡ length out.old + 36) }
@@ -153,7 +153,7 @@ pub(crate) fn put_dinf(out: &mut Bytes) -> Result<(), AllocError>
 }
 
 /// Puts the user data box with the box of the file's start, which is this project's own (8.10.1).
-#[tactic(auto, using(sf_box::proofs::Numbers::length_facts), unfolding(sf_box::specs::Parts::tiled, sf_box::specs::Boxes::be64))]
+#[tactic(auto, using(sf_box::proofs::BoxLaws::length_facts), unfolding(sf_box::specs::Parts::tiled, sf_box::specs::Boxes::be64))]
 pub(crate) fn put_udta(out: &mut Bytes, start_us: u64) -> Result<(), AllocError>
     ensures put { OnOk result (out.new ≡ out.old ++ box_of (codes "udta") (tiled (in_udta start_us))) }
     ensures length { OnOk result (length out.new ≡ length out.old + 24) }

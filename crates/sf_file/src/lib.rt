@@ -10,7 +10,7 @@ mod out_file;
 mod pieces;
 
 pub use faults::FileFault;
-pub use laws::{closed_file_means, no_chunks, one_more_appended, one_more_chunk};
+pub use laws::{closed_file_means, early_is_brief, no_chunks, one_more_appended, one_more_chunk};
 pub use out_file::{Closing, OutFile};
 
 #[cfg(test)]

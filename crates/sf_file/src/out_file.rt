@@ -1,9 +1,10 @@
 ghost use Rattle.std.specs.Prelude.{◌≡◌, ◌==◌, ℕ, ◌+◌, ◌*◌, ◌^◌, ◌≤◌, ◌<◌, List, [], ◌∷◌, ◌++◌, length, Option, Err, OnOk, OnErr, IfOk, IfErr, MatchResult};
 ghost use Rattle.sf_tick.specs.declared.types.Chunk.{Chunk};
-ghost use Rattle.sf_world.specs.Contents.{GainsPart, grown};
+ghost use Rattle.sf_world.specs.Contents.{grown};
 ghost use Rattle.sf_world.specs.Counts.{Rose};
+ghost use Rattle.sf_world.specs.Views.{GainsPart};
 ghost use Rattle.sf_meaning.specs.Stbl.{timed_of};
-ghost use Rattle.sf_meaning.specs.Layout.{layout, samples_of, stored_bytes};
+ghost use Rattle.sf_meaning.specs.Layout.{first_dts, layout, samples_of, stored_bytes};
 ghost use Rattle.sf_gather.specs.Accepting.{last_from};
 ghost use Rattle.sf_meaning.specs.Stbl.{duration_in_rows};
 ghost use Rattle.sf_tables.specs.Rows.{with_chunk};
@@ -53,15 +54,12 @@ pub struct OutFile<S: Sink> {
 
 impl<S: Sink> Model for OutFile<S> {
     ghost use Rattle.sf_file.specs.Open.{OpenFile, Sound};
-    ghost use Rattle.sf_file.specs.OpenCode.{open_code};
 
-    ghost Value = { OpenFile S };
+    ghost Value = { OpenFile };
 
-    ghost coded = { open_code S.code };
+    ghost view = { λ f. record { scale = f.scale; entry = f.entry; tables = f.tables; last = f.last; end = f.end; sink = S.seen f.sink } };
 
-    ghost view = { λ f. record { scale = f.scale; entry = f.entry; tables = f.tables; last = f.last; end = f.end; sink = f.sink } };
-
-    ghost invariant = { λ f. Sound f.scale f.entry f.tables f.last f.end (S.size f.sink) };
+    ghost invariant = { λ f. Sound f.scale f.entry f.tables f.last f.end (S.seen f.sink).size };
 }
 
 // What is kept of the last of samples that stand behind an earlier last one.
@@ -90,13 +88,13 @@ impl<S: Sink> OutFile<S> {
     ) -> Result<OutFile<S>, (S, FileFault)>
         requires scale { 1 ≤ scale }
         requires entry { length entry ≤ 2 ^ 27 }
-        ensures stands { IfOk result (λ f. Stands S.contents (S.contents sink) [] f) }
+        ensures stands { IfOk result (λ f. Stands (S.seen sink).content [] f) }
         ensures scale { IfOk result (λ f. f.scale ≡ scale) }
         ensures entry { IfOk result (λ f. f.entry ≡ entry) }
-        ensures part { IfErr result (λ e. GainsPart (file_head 16) (S.contents sink) (S.contents e.0)) }
-        ensures no_memory { IfErr result (λ e. e.1 ≡ FileFault.NoMemory → S.contents e.0 ≡ S.contents sink) }
-        ensures later { MatchResult result (λ f. S.faults sink ≤ S.faults f.sink) (λ e. S.faults sink ≤ S.faults e.0) }
-        ensures failed { IfErr result (λ e. e.1 ≡ FileFault.WriteFault → Rose (S.faults sink) (S.faults e.0)) }
+        ensures part { IfErr result (λ e. GainsPart (file_head 16) (S.seen sink) (S.seen e.0)) }
+        ensures no_memory { IfErr result (λ e. e.1 ≡ FileFault.NoMemory → S.seen e.0 ≡ S.seen sink) }
+        ensures later { MatchResult result (λ f. (S.seen sink).faults ≤ f.sink.faults) (λ e. (S.seen sink).faults ≤ (S.seen e.0).faults) }
+        ensures failed { IfErr result (λ e. e.1 ≡ FileFault.WriteFault → Rose (S.seen sink).faults (S.seen e.0).faults) }
     {
         let mut sink = sink;
         if let Err(fault) = put(&mut sink, &file_head()) {
@@ -132,7 +130,7 @@ impl<S: Sink> OutFile<S> {
         ensures movie_box { result.movie_box ≡ length (closing_box_with self.now chunk.now) }
         ensures bytes { result.bytes ≡ self.now.end + length (stored_bytes chunk.now.samples) + length (closing_box_with self.now chunk.now) }
         ensures samples { result.samples ≡ length (timed_of self.now.tables.rows) + length chunk.now.samples }
-        ensures whole { (begun : Option (List ℕ)) (chunks : List Chunk) → Stands S.contents begun chunks self.now
+        ensures whole { (begun : Option (List ℕ)) (chunks : List Chunk) → Stands begun chunks self.now
             → ClosesAs self.now.scale self.now.entry (chunks ++ chunk.now ∷ []) result }
     {
         let (stbl, duration) = self.lengths_with(chunk);
@@ -147,30 +145,30 @@ impl<S: Sink> OutFile<S> {
     /// How long the file would be, if it were closed as it is.
     pub fn size(&self) -> u64
         ensures bytes { result ≡ self.now.end + length (closing_box self.now) }
-        ensures whole { (begun : Option (List ℕ)) (chunks : List Chunk) → Stands S.contents begun chunks self.now
+        ensures whole { (begun : Option (List ℕ)) (chunks : List Chunk) → Stands begun chunks self.now
             → result ≡ length (layout self.now.scale self.now.entry chunks) }
     {
         let stbl = self.tables.size(self.entry.len() as u64);
         self.end + moov_len(self.scale, self.tables.duration(), stbl)
     }
 
-    /// Writes a chunk behind the others. Its own memory is taken before the sink is called. After an
+    /// Writes a chunk after the others. Its own memory is taken before the sink is called. After an
     /// error the file holds what it held. Where the sink failed it may have gained a first part of the
     /// chunk, and only `give_sink` is called then.
     pub fn append(&mut self, chunk: &Chunk) -> Result<(), FileFault>
         requires appendable { Appendable self.old chunk.now }
         requires movie_box { length (closing_box_with self.old chunk.now) ≤ 2 ^ 28 }
-        ensures stands { OnOk result ((begun : Option (List ℕ)) (chunks : List Chunk) → Stands S.contents begun chunks self.old
-            → Stands S.contents begun (chunks ++ chunk.now ∷ []) self.new) }
+        ensures stands { OnOk result ((begun : Option (List ℕ)) (chunks : List Chunk) → Stands begun chunks self.old
+            → Stands begun (chunks ++ chunk.now ∷ []) self.new) }
         ensures last { OnOk result (self.new.last ≡ last_from self.old.last chunk.now.samples) }
         ensures rows { OnOk result (self.new.tables.rows ≡ with_chunk self.old.tables.rows self.old.end chunk.now) }
         ensures scale { self.new.scale ≡ self.old.scale }
         ensures entry { self.new.entry ≡ self.old.entry }
         ensures stays { OnErr result (Stays self.old self.new) }
-        ensures part { OnErr result (GainsPart (stored_bytes chunk.now.samples) (S.contents self.old.sink) (S.contents self.new.sink)) }
-        ensures no_memory { result ≡ Err FileFault.NoMemory → S.contents self.new.sink ≡ S.contents self.old.sink }
-        ensures later { S.faults self.old.sink ≤ S.faults self.new.sink }
-        ensures failed { result ≡ Err FileFault.WriteFault → Rose (S.faults self.old.sink) (S.faults self.new.sink) }
+        ensures part { OnErr result (GainsPart (stored_bytes chunk.now.samples) self.old.sink self.new.sink) }
+        ensures no_memory { result ≡ Err FileFault.NoMemory → self.new.sink ≡ self.old.sink }
+        ensures later { self.old.sink.faults ≤ self.new.sink.faults }
+        ensures failed { result ≡ Err FileFault.WriteFault → Rose self.old.sink.faults self.new.sink.faults }
     {
         if self.tables.reserve_chunk(chunk).is_err() {
             return Err(FileFault::NoMemory);
@@ -204,12 +202,12 @@ impl<S: Sink> OutFile<S> {
     /// Writes the movie box at the end, and then the size of the media data box. After an error the
     /// sink comes back.
     pub fn close(self) -> Result<S, (S, FileFault)>
-        ensures closed { IfOk result (λ s. (begun : Option (List ℕ)) (chunks : List Chunk) → IsEmpty begun → Stands S.contents begun chunks self
-            → S.contents s ≡ grown begun (layout self.scale self.entry chunks)) }
-        ensures part { IfErr result (λ e. HalfClosed (closing_box self) (S.contents self.sink) (S.contents e.0)) }
-        ensures no_memory { IfErr result (λ e. e.1 ≡ FileFault.NoMemory → S.contents e.0 ≡ S.contents self.sink) }
-        ensures later { MatchResult result (λ s. S.faults self.sink ≤ S.faults s) (λ e. S.faults self.sink ≤ S.faults e.0) }
-        ensures failed { IfErr result (λ e. e.1 ≡ FileFault.WriteFault → Rose (S.faults self.sink) (S.faults e.0)) }
+        ensures closed { IfOk result (λ s. (begun : Option (List ℕ)) (chunks : List Chunk) → IsEmpty begun → Stands begun chunks self
+            → (S.seen s).content ≡ grown begun (layout self.scale self.entry chunks)) }
+        ensures part { IfErr result (λ e. HalfClosed (closing_box self) self.sink (S.seen e.0)) }
+        ensures no_memory { IfErr result (λ e. e.1 ≡ FileFault.NoMemory → S.seen e.0 ≡ self.sink) }
+        ensures later { MatchResult result (λ s. self.sink.faults ≤ (S.seen s).faults) (λ e. self.sink.faults ≤ (S.seen e.0).faults) }
+        ensures failed { IfErr result (λ e. e.1 ≡ FileFault.WriteFault → Rose self.sink.faults (S.seen e.0).faults) }
     {
         let movie_box = self.movie_box();
         let size = self.end - DATA_PLACE;
@@ -228,7 +226,9 @@ impl<S: Sink> OutFile<S> {
 
     /// When the file starts, in microseconds: with its first sample, and at 0 without samples.
     pub fn start_us(&self) -> u64
-        ensures { result ≡ start_of self.now.tables.first_dts }
+        ensures start { result ≡ start_of self.now.tables.first_dts }
+        ensures whole { (begun : Option (List ℕ)) (chunks : List Chunk) → Stands begun chunks self.now
+            → result ≡ first_dts (samples_of chunks) }
     {
         self.tables.first_dts().unwrap_or(0)
     }
@@ -236,7 +236,7 @@ impl<S: Sink> OutFile<S> {
     /// How many samples the file holds.
     pub fn samples(&self) -> u64
         ensures samples { result ≡ length (timed_of self.now.tables.rows) }
-        ensures whole { (begun : Option (List ℕ)) (chunks : List Chunk) → Stands S.contents begun chunks self.now
+        ensures whole { (begun : Option (List ℕ)) (chunks : List Chunk) → Stands begun chunks self.now
             → result ≡ length (samples_of chunks) }
     {
         self.tables.count()
@@ -244,14 +244,16 @@ impl<S: Sink> OutFile<S> {
 
     /// Whether the file holds no samples.
     pub fn is_empty(&self) -> bool
-        ensures { result ≡ (length (timed_of self.now.tables.rows) == 0) }
+        ensures count { result ≡ (length (timed_of self.now.tables.rows) == 0) }
+        ensures whole { (begun : Option (List ℕ)) (chunks : List Chunk) → Stands begun chunks self.now
+            → result ≡ (length (samples_of chunks) == 0) }
     {
         self.tables.count() == 0
     }
 
     /// The sink, as far as it was written.
     pub fn give_sink(self) -> S
-        ensures { result ≡ self.sink }
+        ensures { S.seen result ≡ self.sink }
     {
         self.sink
     }

@@ -2,8 +2,8 @@
 
 ghost use Rattle.std.specs.Prelude.{◌≡◌, ◌+◌, ◌*◌, ◌^◌, ◌≤◌, ◌<◌, length, Err, OnOk, OnErr, IfOk};
 ghost use Rattle.std.specs.List.{AllByRecursion};
-ghost use Rattle.sf_world.specs.Contents.{GainsPart, grown};
 ghost use Rattle.sf_world.specs.Counts.{Rose};
+ghost use Rattle.sf_world.specs.Views.{Gains, GainsPart};
 ghost use Rattle.sf_meaning.specs.Layout.{stored_bytes};
 ghost use Rattle.sf_file.specs.Movie.{file_head};
 
@@ -28,13 +28,12 @@ pub(crate) fn file_head() -> [u8; 40]
 
 /// Puts bytes at the end of a sink. After an error some first part of them stands there.
 pub(crate) fn put<S: Sink>(sink: &mut S, bytes: &[u8]) -> Result<(), FileFault>
-    ensures ok { OnOk result (S.contents sink.new ≡ grown (S.contents sink.old) bytes.now) }
-    ensures part { OnErr result (GainsPart bytes.now (S.contents sink.old) (S.contents sink.new)) }
-    ensures no_memory { result ≡ Err FileFault.NoMemory → S.contents sink.new ≡ S.contents sink.old }
-    ensures size { OnOk result (S.size sink.new ≡ S.size sink.old + length bytes.now) }
-    ensures longer { S.size sink.old ≤ S.size sink.new }
-    ensures later { S.faults sink.old ≤ S.faults sink.new }
-    ensures failed { result ≡ Err FileFault.WriteFault → Rose (S.faults sink.old) (S.faults sink.new) }
+    ensures ok { OnOk result (Gains bytes.now (S.seen sink.old) (S.seen sink.new)) }
+    ensures part { OnErr result (GainsPart bytes.now (S.seen sink.old) (S.seen sink.new)) }
+    ensures no_memory { result ≡ Err FileFault.NoMemory → S.seen sink.new ≡ S.seen sink.old }
+    ensures longer { (S.seen sink.old).size ≤ (S.seen sink.new).size }
+    ensures later { (S.seen sink.old).faults ≤ (S.seen sink.new).faults }
+    ensures failed { result ≡ Err FileFault.WriteFault → Rose (S.seen sink.old).faults (S.seen sink.new).faults }
 {
     match sink.append(bytes) {
         Ok(()) => Ok(()),

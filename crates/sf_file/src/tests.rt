@@ -126,7 +126,8 @@ fn all_follow(scale: u32, last: Option<LastSample>, samples: &[Stored]) -> bool
 fn is_appendable<S: Sink>(file: &OutFile<S>, chunk: &Chunk) -> bool
     ensures { IsTrue result → Appendable file.now chunk.now }
 {
-    !chunk.samples.is_empty()
+    chunk.track == 0
+        && !chunk.samples.is_empty()
         && all_follow(file.scale, file.last, chunk.samples.as_slice())
         && file
             .tables

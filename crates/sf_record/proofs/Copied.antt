@@ -1,5 +1,5 @@
 -- How the chunks of a pump go into a file.
-use Rattle.std.proofs.Common.{◌≡◌, ℕ, ◌≤◌, ◌^◌, ◌⊎◌, nat_lt, Bool, true, false, List, [], ◌∷◌, ◌++◌, length, Option, Some, None, IfSome, IfNone, IsSome, is_some, is_none, refl, sym, ap, ◌∙◌, subst, cond, inl, inr, append_assoc, arith}
+use Rattle.std.proofs.Common.{◌≡◌, ℕ, ◌≤◌, ◌^◌, ◌⊎◌, nat_lt, Bool, true, false, List, [], ◌∷◌, ◌++◌, length, Option, Some, None, IsSome, refl, sym, ap, ◌∙◌, subst, inl, inr, append_assoc, arith}
 use Rattle.std.specs.List.{AllByRecursion}
 use Rattle.std.specs.Option.{option_to_list}
 use Rattle.std.proofs.lemmas.List.{append-nil}
@@ -9,22 +9,21 @@ use Rattle.std.proofs.lemmas.Bool.Decides.{nat_tests}
 use Rattle.sf_tick.specs.declared.types.Stored.{Stored}
 use Rattle.sf_tick.specs.declared.types.Chunk.{Chunk}
 use Rattle.sf_meaning.specs.Stbl.{timed_of}
-use Rattle.sf_meaning.specs.Layout.{samples_of}
+use Rattle.sf_tick.specs.Samples.{samples_of}
 use Rattle.sf_gather.specs.declared.given.Given.{Given}
 use Rattle.sf_gather.specs.Accepting.{last_of}
 use Rattle.sf_gather.specs.Chunks.{chunks, closed, marked}
 use Rattle.sf_gather.specs.Gathered.{Gathered}
 use Rattle.sf_gather.specs.Proper.{Proper, Extends, tail_of}
-use Rattle.sf_gather.proofs.Tails.{proper_extends}
-use Rattle.sf_gather.proofs.ProperLists.{chunks_joined}
+use Rattle.sf_gather.proofs.GatherLaws.{proper_extends}
+use Rattle.sf_gather.proofs.GatherLaws.{chunks_joined}
 use Rattle.sf_file.specs.Open.{OpenFile, closing_box_with}
-use Rattle.sf_record.specs.Copying.{Copies, Copied, Limited, Goes, Puttable}
-use Rattle.sf_record.specs.Holding.{Holds}
+use Rattle.sf_record.specs.inner.Copying.{Copies, Copied, Limited, Goes, Puttable}
+use Rattle.sf_record.specs.inner.Holding.{Holds}
 use Rattle.sf_record.specs.Limits.{Put, filled, put_all, put_behind}
 use Rattle.sf_record.specs.declared.limits.LimitShown.{LimitShown}
-use Rattle.sf_record.specs.declared.pump.Stepped.{Stepped}
-use Rattle.sf_record.specs.declared.pump.Stepped.TheVariants.{Moved, HasChunk, Done, NoMemory}
-use Rattle.sf_record.specs.Pumping.{Pumping, Stands as PumpStands, Moves, Ended, Works, given_chunks}
+use Rattle.sf_record.specs.declared.pump.Stepped.TheVariants.{HasChunk}
+use Rattle.sf_record.specs.Pumping.{Pumping, Stands as PumpStands, Accepts, Ended, StepsTo, Works, given_chunks}
 use Rattle.sf_record.proofs.Limited.{Known, known}
 
 -- an empty chunk has no samples
@@ -59,7 +58,7 @@ record Gave (accepted : List Stored) (gave all : List Chunk) : Type 0 where
   behind : List Chunk
   chunks : all ≡ gave ++ behind
 
-gave_by : {S : Type 0} (contents : Option (List ℕ)) (accepted : List Stored) (gave : List Chunk) (pump : Pumping S) (gatherer : Option Gathered)
+gave_by : (contents : Option (List ℕ)) (accepted : List Stored) (gave : List Chunk) (pump : Pumping) (gatherer : Option Gathered)
     → Works contents accepted gave pump gatherer → Gave accepted gave (chunks pump.given accepted)
 gave_by contents accepted gave pump None w =
     record {
@@ -88,9 +87,9 @@ early_behind [] ys a = a
 early_behind (x ∷ xs) ys a = early_behind xs ys a.1
 
 -- A chunk that a pump holds can be put into the file that holds those before it.
-pub puttable : {S O : Type 0} {source : Option (List ℕ)} {contents : O → Option (List ℕ)} {begun : Option (List ℕ)} {accepted : List Stored} {taken : List Chunk} {pump : Pumping S} {file : OpenFile O} (chunk : Chunk)
-    → Copies source contents begun accepted taken pump file → pump.chunk ≡ Some chunk → Puttable file chunk
-puttable {S} {O} {source} {contents} {begun} {accepted} {taken} {pump} {file} chunk c e =
+pub puttable : {source : Option (List ℕ)} {begun : Option (List ℕ)} {accepted : List Stored} {taken : List Chunk} {pump : Pumping} {file : OpenFile} (chunk : Chunk)
+    → Copies source begun accepted taken pump file → pump.chunk ≡ Some chunk → Puttable file chunk
+puttable {source} {begun} {accepted} {taken} {pump} {file} chunk c e =
     let gave : List Chunk = taken ++ chunk ∷ [] in
     let is : given_chunks taken pump ≡ gave = ap (λ (o : Option Chunk). taken ++ option_to_list o) e in
     let proper : Proper pump.given.track pump.given.scale gave = subst (λ (cs : List Chunk). Proper pump.given.track pump.given.scale cs) is c.stands.proper in
@@ -105,32 +104,48 @@ puttable {S} {O} {source} {contents} {begun} {accepted} {taken} {pump} {file} ch
     let last : file.last ≡ last_of (samples_of taken) = c.holds.stands.last ∙ ap (λ (ss : List Stored). last_of ss) (filled_samples taken) in
     let k : Known pump.given.scale (filled taken) chunk (length (closing_box_with file chunk)) (length (timed_of file.tables.rows)) = known chunk c.holds in
     record {
+      track = extends.itself.track ∙ c.track;
       few = extends.itself.few;
       follow = rw (c.holds.ticks, last) extends.samples;
       early = early;
       rows = omega (arith, k.count, c.holds.holdable.few);
     }
 
--- a pump with one more accepted sample, or whose last chunk was made
-pub goes_moved : {S O : Type 0} {source : Option (List ℕ)} {contents : O → Option (List ℕ)} {begun : Option (List ℕ)} {accepted : List Stored} {taken : List Chunk} {pump after : Pumping S} {file : OpenFile O}
-    → Copies source contents begun accepted taken pump file → after.given ≡ pump.given → Moves source accepted taken after → Goes source contents begun after file
-goes_moved {S} {O} {source} {contents} {begun} {accepted} {taken} {pump} {after} {file} c given m =
+-- a pump with one more accepted sample
+pub goes_moved : {source : Option (List ℕ)} {begun : Option (List ℕ)} {accepted : List Stored} {taken : List Chunk} {pump after : Pumping} {file : OpenFile}
+    → Copies source begun accepted taken pump file → after.given ≡ pump.given → Accepts source accepted taken after
+    → (samples : List Stored) × Copies source begun samples taken after file
+goes_moved {source} {begun} {accepted} {taken} {pump} {after} {file} c given one =
     let scale : after.given.scale ≡ pump.given.scale = ap (λ (g : Given). g.scale) given in
+    (accepted ++ one.1.0 ∷ [], record { stands = one.1.1; track = ap (λ (g : Given). g.track) given ∙ c.track; holds = rw scale c.holds; free = rw scale c.free })
+
+-- a pump with the same accepted samples
+pub goes_same : {source : Option (List ℕ)} {begun : Option (List ℕ)} {accepted : List Stored} {taken : List Chunk} {pump after : Pumping} {file : OpenFile}
+    → Copies source begun accepted taken pump file → after.given ≡ pump.given → PumpStands source accepted taken after → Copies source begun accepted taken after file
+goes_same {source} {begun} {accepted} {taken} {pump} {after} {file} c given stands =
+    let scale : after.given.scale ≡ pump.given.scale = ap (λ (g : Given). g.scale) given in
+    record { stands = stands; track = ap (λ (g : Given). g.track) given ∙ c.track; holds = rw scale c.holds; free = rw scale c.free }
+
+-- a pump that holds a chunk after a step
+pub goes_held : {source : Option (List ℕ)} {begun : Option (List ℕ)} {accepted : List Stored} {taken : List Chunk} {pump after : Pumping} {file : OpenFile}
+    → Copies source begun accepted taken pump file → after.given ≡ pump.given → StepsTo source accepted taken after HasChunk
+    → (samples : List Stored) × Copies source begun samples taken after file
+goes_held {source} {begun} {accepted} {taken} {pump} {after} {file} c given m =
     elim m [
-      | inl one ↦ (accepted ++ one.1.0 ∷ [], taken, record { stands = one.1.1; holds = rw scale c.holds; free = rw scale c.free })
-      | inr last ↦ (accepted, taken, record { stands = last.2; holds = rw scale c.holds; free = rw scale c.free })
+      | inl same ↦ (accepted, goes_same c given same)
+      | inr one ↦ goes_moved c given one
     ]
 
 filled_more : (cs : List Chunk) (c : Chunk) → filled (cs ++ c ∷ []) ≡ filled cs ++ filled (c ∷ [])
 filled_more cs c = filter-append (λ (d : Chunk). nat_lt 0 (length d.samples)) cs (c ∷ [])
 
 -- a chunk that was taken is in the file
-pub goes_taken : {S O : Type 0} {source : Option (List ℕ)} {contents : O → Option (List ℕ)} {begun : Option (List ℕ)} {accepted : List Stored} {taken : List Chunk} {pump after : Pumping S} {file filed : OpenFile O} (chunk : Chunk)
-    → Copies source contents begun accepted taken pump file → after.given ≡ pump.given → PumpStands source accepted (taken ++ chunk ∷ []) after
-    → Holds contents begun pump.given.scale (filled taken ++ filled (chunk ∷ [])) filed
+pub goes_taken : {source : Option (List ℕ)} {begun : Option (List ℕ)} {accepted : List Stored} {taken : List Chunk} {pump after : Pumping} {file filed : OpenFile} (chunk : Chunk)
+    → Copies source begun accepted taken pump file → after.given ≡ pump.given → PumpStands source accepted (taken ++ chunk ∷ []) after
+    → Holds begun pump.given.scale (filled taken ++ filled (chunk ∷ [])) filed
     → ((more : List Chunk) → put_behind pump.given.scale (filled taken) (filled (chunk ∷ []) ++ more) ≡ put_behind pump.given.scale (filled taken ++ filled (chunk ∷ [])) more)
-    → Goes source contents begun after filed
-goes_taken {S} {O} {source} {contents} {begun} {accepted} {taken} {pump} {after} {file} {filed} chunk c given stands holds put =
+    → Goes source begun after filed
+goes_taken {source} {begun} {accepted} {taken} {pump} {after} {file} {filed} chunk c given stands holds put =
     let scale : after.given.scale ≡ pump.given.scale = ap (λ (g : Given). g.scale) given in
     let free : (more : List Chunk) → put_behind pump.given.scale [] (filled (taken ++ chunk ∷ []) ++ more) ≡ put_behind pump.given.scale (filled (taken ++ chunk ∷ [])) more =
     λ more. ap (λ (cs : List Chunk). put_behind pump.given.scale [] (cs ++ more)) (filled_more taken chunk)
@@ -141,35 +156,36 @@ goes_taken {S} {O} {source} {contents} {begun} {accepted} {taken} {pump} {after}
       taken ++ chunk ∷ [],
       record {
         stands = stands;
+        track = ap (λ (g : Given). g.track) given ∙ c.track;
         holds = rw (scale, filled_more taken chunk) holds;
         free = rw scale free;
       },
     )
 
-copied_by : {S O : Type 0} (source : Option (List ℕ)) (contents : O → Option (List ℕ)) (begun : Option (List ℕ)) (accepted : List Stored) (taken all : List Chunk) (pump : Pumping S) (file : OpenFile O)
+copied_by : (source : Option (List ℕ)) (begun : Option (List ℕ)) (accepted : List Stored) (taken all : List Chunk) (pump : Pumping) (file : OpenFile)
     → taken ≡ all → put_behind pump.given.scale [] (filled taken) ≡ record { chunks = filled taken; limit = None } → all ≡ chunks pump.given accepted
-    → Copies source contents begun accepted taken pump file → pump.gatherer ≡ None → Copied source contents begun accepted pump file
+    → Copies source begun accepted taken pump file → pump.gatherer ≡ None → Copied source begun accepted pump file
 unfolding put_all
-copied_by source contents begun accepted taken all pump file same put is c over =
+copied_by source begun accepted taken all pump file same put is c over =
     let put_is : put_all pump.given.scale (chunks pump.given accepted) ≡ record { chunks = filled taken; limit = None } =
     ap (λ (cs : List Chunk). put_behind pump.given.scale [] (filled cs)) (sym (same ∙ is)) ∙ put in
     record {
       stands = subst (λ (cs : List Chunk). PumpStands source accepted cs pump) (same ∙ is) c.stands;
       over = over;
       free = ap (λ (p : Put). p.limit) put_is;
-      holds = subst (λ (cs : List Chunk). Holds contents begun pump.given.scale cs file) (sym (ap (λ (p : Put). p.chunks) put_is)) c.holds;
+      holds = subst (λ (cs : List Chunk). Holds begun pump.given.scale cs file) (sym (ap (λ (p : Put). p.chunks) put_is)) c.holds;
     }
 
 -- once the last chunk was taken, all are in the file
-pub copied : {S O : Type 0} {source : Option (List ℕ)} {contents : O → Option (List ℕ)} {begun : Option (List ℕ)} {accepted : List Stored} {taken : List Chunk} {pump : Pumping S} {file : OpenFile O}
-    → Copies source contents begun accepted taken pump file → pump.chunk ≡ None → pump.gatherer ≡ None → Copied source contents begun accepted pump file
-copied {S} {O} {source} {contents} {begun} {accepted} {taken} {pump} {file} c chunk over =
+pub copied : {source : Option (List ℕ)} {begun : Option (List ℕ)} {accepted : List Stored} {taken : List Chunk} {pump : Pumping} {file : OpenFile}
+    → Copies source begun accepted taken pump file → pump.chunk ≡ None → pump.gatherer ≡ None → Copied source begun accepted pump file
+copied {source} {begun} {accepted} {taken} {pump} {file} c chunk over =
     let is : given_chunks taken pump ≡ taken = ap (λ (o : Option Chunk). taken ++ option_to_list o) chunk ∙ append-nil taken in
     let works : Ended source accepted (given_chunks taken pump) pump = subst (λ (g : Option Gathered). Works source accepted (given_chunks taken pump) pump g) over c.stands.works in
     let all : taken ≡ chunks pump.given accepted = sym is ∙ works.chunks in
     let put : put_behind pump.given.scale [] (filled taken) ≡ record { chunks = filled taken; limit = None } =
     ap (λ (cs : List Chunk). put_behind pump.given.scale [] cs) (sym (append-nil (filled taken))) ∙ c.free [] in
-    copied_by source contents begun accepted taken (chunks pump.given accepted) pump file all put refl c over
+    copied_by source begun accepted taken (chunks pump.given accepted) pump file all put refl c over
 
 -- what is put of chunks that begin with some that are free of a limit and one that meets it
 put_stops : (scale : ℕ) (taken all behind : List Chunk) (chunk : Chunk) (limit : LimitShown)
@@ -185,12 +201,12 @@ put_stops scale taken all behind chunk limit free put is =
     ∙ free (filled (chunk ∷ []) ++ filled behind) ∙ put (filled behind)
 
 -- A chunk with which the file passes a limit isn't put there.
-pub limited : {S O : Type 0} {source : Option (List ℕ)} {contents : O → Option (List ℕ)} {begun : Option (List ℕ)} {accepted : List Stored} {taken : List Chunk} {pump after : Pumping S} {file : OpenFile O} (chunk : Chunk) (limit : LimitShown)
-    → Copies source contents begun accepted taken pump file → after.given ≡ pump.given → PumpStands source accepted (taken ++ chunk ∷ []) after → pump.chunk ≡ Some chunk
+pub limited : {source : Option (List ℕ)} {begun : Option (List ℕ)} {accepted : List Stored} {taken : List Chunk} {pump after : Pumping} {file : OpenFile} (chunk : Chunk) (limit : LimitShown)
+    → Copies source begun accepted taken pump file → after.given ≡ pump.given → PumpStands source accepted (taken ++ chunk ∷ []) after → pump.chunk ≡ Some chunk
     → ((more : List Chunk) → put_behind pump.given.scale (filled taken) (filled (chunk ∷ []) ++ more) ≡ record { chunks = filled taken; limit = Some limit })
     → (IsSome after.gatherer → (more : List Stored) → (rest : List Chunk) × (chunks pump.given (accepted ++ more) ≡ (taken ++ chunk ∷ []) ++ rest))
-    → Limited source contents begun accepted limit after file
-limited {S} {O} {source} {contents} {begun} {accepted} {taken} {pump} {after} {file} chunk limit c given stands e put stay =
+    → Limited source begun accepted limit after file
+limited {source} {begun} {accepted} {taken} {pump} {after} {file} chunk limit c given stands e put stay =
     let scale : after.given.scale ≡ pump.given.scale = ap (λ (g : Given). g.scale) given in
     let is : given_chunks taken pump ≡ taken ++ chunk ∷ [] = ap (λ (o : Option Chunk). taken ++ option_to_list o) e in
     let g : Gave accepted (given_chunks taken pump) (chunks pump.given accepted) = gave_by source accepted (given_chunks taken pump) pump pump.gatherer c.stands.works in
@@ -205,33 +221,19 @@ limited {S} {O} {source} {contents} {begun} {accepted} {taken} {pump} {after} {f
       stands = stands;
       limited = ap (λ (p : Put). p.limit) after_is;
       stays = λ some more. let first = stay some more in put_is (accepted ++ more) first.0 first.1 ∙ sym after_is;
-      holds = subst (λ (cs : List Chunk). Holds contents begun after.given.scale cs file) (sym (ap (λ (p : Put). p.chunks) after_is)) (subst (λ (n : ℕ). Holds contents begun n (filled taken) file) (sym scale) c.holds);
+      holds = subst (λ (cs : List Chunk). Holds begun after.given.scale cs file) (sym (ap (λ (p : Put). p.chunks) after_is)) (subst (λ (n : ℕ). Holds begun n (filled taken) file) (sym scale) c.holds);
     }
 
--- a step that tells of a chunk that is held changes nothing
-pub rests_full : {A : Type 0} {new old : A} (o : Option Stepped) → IfSome o (λ answer. (HasChunk ≡ answer) × (new ≡ old)) → IfNone o ((HasChunk ≡ Moved) ⊎ (HasChunk ≡ NoMemory)) → new ≡ old
-rests_full (Some answer) some none = some.1
-rests_full None some none = elim none [ inl m ↦ cc | inr n ↦ cc ]
-
--- nor does one that tells that the last chunk was taken
-pub rests_done : {A : Type 0} {new old : A} (o : Option Stepped) → IfSome o (λ answer. (Done ≡ answer) × (new ≡ old)) → IfNone o ((Done ≡ Moved) ⊎ (Done ≡ NoMemory)) → (o ≡ Some Done) × (new ≡ old)
-rests_done (Some answer) some none = (ap (λ (a : Stepped). Some a) (sym some.0), some.1)
-rests_done None some none = elim none [ inl m ↦ cc | inr n ↦ cc ]
-
-pub done_parts : (chunk : Option Chunk) (gatherer : Option Gathered) → cond (is_some chunk) (Some HasChunk) (cond (is_none gatherer) (Some Done) None) ≡ Some Done → (chunk ≡ None) × (gatherer ≡ None)
-done_parts (Some c) gatherer e = cc
-done_parts None (Some g) e = cc
-done_parts None None e = (refl, refl)
-
 -- what a turn does, where the source is the same
-pub turn_same : {S O : Type 0} {first second : Option (List ℕ)} {contents : O → Option (List ℕ)} {begun : Option (List ℕ)} {pump : Pumping S} {file : OpenFile O} (P : Option (List ℕ) → List Stored → Type 0)
-    → second ≡ first → Goes first contents begun pump file → ((accepted : List Stored) (taken : List Chunk) → Copies second contents begun accepted taken pump file → P second accepted)
-    → (accepted : List Stored) × P first accepted
-turn_same {S} {O} {first} {second} {contents} {begun} {pump} {file} P e goes turn =
-    (goes.0, subst (λ (s : Option (List ℕ)). P s goes.0) e (turn goes.0 goes.1 (subst (λ (s : Option (List ℕ)). Copies s contents begun goes.0 goes.1 pump file) (sym e) goes.2)))
+pub turn_same : {first second : Option (List ℕ)} {begun : Option (List ℕ)} {pump : Pumping} {file : OpenFile} (P : Option (List ℕ) → List Stored → Type 0)
+    → second ≡ first → Goes first begun pump file → ((accepted : List Stored) (taken : List Chunk) → Copies second begun accepted taken pump file → (samples : List Stored) × P second samples)
+    → (samples : List Stored) × P first samples
+turn_same {first} {second} {begun} {pump} {file} P e goes turn =
+    let t = turn goes.0 goes.1 (subst (λ (s : Option (List ℕ)). Copies s begun goes.0 goes.1 pump file) (sym e) goes.2) in
+    (t.0, subst (λ (s : Option (List ℕ)). P s t.0) e t.1)
 
-pub turn_goes : {S O : Type 0} {first second : Option (List ℕ)} {contents : O → Option (List ℕ)} {begun : Option (List ℕ)} {pump after : Pumping S} {file filed : OpenFile O}
-    → second ≡ first → Goes first contents begun pump file → ((accepted : List Stored) (taken : List Chunk) → Copies second contents begun accepted taken pump file → Goes second contents begun after filed)
-    → Goes first contents begun after filed
-turn_goes {S} {O} {first} {second} {contents} {begun} {pump} {after} {file} {filed} e goes turn =
-    subst (λ (s : Option (List ℕ)). Goes s contents begun after filed) e (turn goes.0 goes.1 (subst (λ (s : Option (List ℕ)). Copies s contents begun goes.0 goes.1 pump file) (sym e) goes.2))
+pub turn_goes : {first second : Option (List ℕ)} {begun : Option (List ℕ)} {pump after : Pumping} {file filed : OpenFile}
+    → second ≡ first → Goes first begun pump file → ((accepted : List Stored) (taken : List Chunk) → Copies second begun accepted taken pump file → Goes second begun after filed)
+    → Goes first begun after filed
+turn_goes {first} {second} {begun} {pump} {after} {file} {filed} e goes turn =
+    subst (λ (s : Option (List ℕ)). Goes s begun after filed) e (turn goes.0 goes.1 (subst (λ (s : Option (List ℕ)). Copies s begun goes.0 goes.1 pump file) (sym e) goes.2))

@@ -8,7 +8,7 @@ use Rattle.sf_tick.specs.declared.types.Chunk.{Chunk}
 use Rattle.sf_tick.specs.declared.types.Stored.{Stored}
 use Rattle.sf_gather.specs.Chunks.{chunks, closed}
 use Rattle.sf_gather.specs.Gathered.{Gathered}
-use Rattle.sf_gather.specs.Proper.{samples_of}
+use Rattle.sf_tick.specs.Samples.{samples_of}
 use Rattle.sf_record.specs.Pumping.{Pumping, Stands, Works, given_chunks}
 
 -- samples that are decoded in the first 2 ^ 30 microseconds
@@ -27,7 +27,7 @@ early_part before chunk more all =
     (early_append chunk.samples (samples_of more) (early_append (samples_of before) (chunk.samples ++ samples_of more) parts).1).0
 
 -- the chunks that a pump gave are the first of those of its accepted samples
-gave_first : {S : Type 0} (contents : Option (List ℕ)) (accepted : List Stored) (gave : List Chunk) (pump : Pumping S) (gatherer : Option Gathered)
+gave_first : (contents : Option (List ℕ)) (accepted : List Stored) (gave : List Chunk) (pump : Pumping) (gatherer : Option Gathered)
     → Works contents accepted gave pump gatherer → (more : List Chunk) × (chunks pump.given accepted ≡ gave ++ more)
 gave_first contents accepted gave pump (Some gatherer) works =
     let all = chunks pump.given accepted in
@@ -35,7 +35,7 @@ gave_first contents accepted gave pump (Some gatherer) works =
     (more, sym (take-append-drop (length all - 1) all) ∙ ap (λ (cs : List Chunk). cs ++ more) (sym works.chunks))
 gave_first contents accepted gave pump None works = ([], sym works.chunks ∙ sym (append-nil gave))
 
-pub chunk_early : {S : Type 0} (contents : Option (List ℕ)) (accepted : List Stored) (taken : List Chunk) (pump : Pumping S) (chunk : Option Chunk)
+pub chunk_early : (contents : Option (List ℕ)) (accepted : List Stored) (taken : List Chunk) (pump : Pumping) (chunk : Option Chunk)
     → pump.chunk ≡ chunk → ((samples : List Stored) → samples_of (chunks pump.given samples) ≡ samples)
     → Stands contents accepted taken pump → IfSome chunk (λ c. AllByRecursion (λ s. s.dts_us ≤ 2 ^ 30) c.samples)
 chunk_early contents accepted taken pump None e join stands = tt
@@ -47,7 +47,7 @@ chunk_early contents accepted taken pump (Some c) e join stands =
     early_part taken c first.0 (subst P (sym (join accepted) ∙ ap samples_of whole) stands.early)
 
 -- until the last chunk is made, the chunks that a pump gave are the first ones, whatever samples follow
-gave_stays : {S : Type 0} (contents : Option (List ℕ)) (accepted : List Stored) (gave : List Chunk) (pump : Pumping S) (gatherer : Option Gathered)
+gave_stays : (contents : Option (List ℕ)) (accepted : List Stored) (gave : List Chunk) (pump : Pumping) (gatherer : Option Gathered)
     → Works contents accepted gave pump gatherer → IsSome gatherer → ((samples more : List Stored) → (rest : List Chunk) × (chunks pump.given (samples ++ more) ≡ closed pump.given samples ++ rest))
     → (more : List Stored) → (rest : List Chunk) × (chunks pump.given (accepted ++ more) ≡ gave ++ rest)
 gave_stays contents accepted gave pump None works some law more = cc some
@@ -56,7 +56,7 @@ gave_stays contents accepted gave pump (Some gatherer) works some law more =
     (first.0, first.1 ∙ ap (λ (cs : List Chunk). cs ++ first.0) (sym works.chunks))
 
 -- the same with the chunk that it holds, which is taken
-pub chunk_stays : {S : Type 0} (contents : Option (List ℕ)) (accepted : List Stored) (taken : List Chunk) (pump : Pumping S) (chunk : Option Chunk)
+pub chunk_stays : (contents : Option (List ℕ)) (accepted : List Stored) (taken : List Chunk) (pump : Pumping) (chunk : Option Chunk)
     → pump.chunk ≡ chunk → ((samples more : List Stored) → (rest : List Chunk) × (chunks pump.given (samples ++ more) ≡ closed pump.given samples ++ rest))
     → Stands contents accepted taken pump → IsSome pump.gatherer
     → (more : List Stored) → (rest : List Chunk) × (chunks pump.given (accepted ++ more) ≡ (taken ++ option_to_list chunk) ++ rest)

@@ -15,11 +15,11 @@ use Rattle.sf_record.specs.Reading.{EndsBy}
 use Rattle.sf_record.proofs.Inputs.{reads_front}
 
 -- a pump behind its last chunk, which it holds
-abbrev pub over : {S : Type 0} → Pumping S → Gathered → Option TrackFault → Pumping S
+abbrev pub over : Pumping → Gathered → Option TrackFault → Pumping
 over pump gatherer fault =
     record { given = pump.given; coded = pump.coded; held_back = None; gatherer = None; chunk = Some (marked gatherer.chunk); fault = fault }
 
-pub over_stands : {S : Type 0} (contents : Option (List ℕ)) (accepted : List Stored) (taken : List Chunk) (old : Pumping S) (gatherer : Gathered) (fault : Option TrackFault)
+pub over_stands : (contents : Option (List ℕ)) (accepted : List Stored) (taken : List Chunk) (old : Pumping) (gatherer : Gathered) (fault : Option TrackFault)
     → AllByRecursion (λ s. s.dts_us ≤ 2 ^ 30) accepted
     → chunks old.given accepted ≡ closed old.given accepted ++ marked gatherer.chunk ∷ []
     → Proper old.given.track old.given.scale (chunks old.given accepted)
@@ -32,13 +32,13 @@ over_stands contents accepted taken old gatherer fault early split proper took f
     record { early = early; proper = rw whole proper; works = record { chunks = whole; front = front; ends = ends } }
 
 -- a pump that was ended early
-was_early : {S : Type 0} (old : Pumping S) (gatherer : Gathered) → old.coded.is_over ≡ false → NotEndedEarly (over old gatherer None) → ⊥
+was_early : (old : Pumping) (gatherer : Gathered) → old.coded.is_over ≡ false → NotEndedEarly (over old gatherer None) → ⊥
 was_early old gatherer going (inl some) = cc some
 was_early old gatherer going (inr (inl over)) = cc (going, over)
 was_early old gatherer going (inr (inr some)) = cc some
 
 -- ending a pump early
-pub early_stands : {S : Type 0} (contents : Option (List ℕ)) (accepted : List Stored) (taken : List Chunk) (old new : Pumping S) (gatherer : Option Gathered)
+pub early_stands : (contents : Option (List ℕ)) (accepted : List Stored) (taken : List Chunk) (old new : Pumping) (gatherer : Option Gathered)
     → old.gatherer ≡ gatherer
     → (gatherer ≡ None → new ≡ old)
     → IfSome gatherer (λ g. new ≡ over old g None)
@@ -47,13 +47,13 @@ pub early_stands : {S : Type 0} (contents : Option (List ℕ)) (accepted : List 
     → (IsSome gatherer → old.chunk ≡ None)
     → Stands contents accepted taken old → Stands contents accepted taken new
 early_stands contents accepted taken old new None e same made split proper free stands = rw (same refl) stands
-early_stands {S = S} contents accepted taken old new (Some g) e same made split proper free stands =
+early_stands contents accepted taken old new (Some g) e same made split proper free stands =
     let P : Option Gathered → Type 0 = λ h. Works contents accepted (given_chunks taken old) old h in
     let w : Gathers contents accepted (given_chunks taken old) old g = subst P e stands.works in
     let none : old.chunk ≡ None = free refl in
     let took : taken ≡ closed old.given accepted = sym (append-nil taken) ∙ ap (λ (c : Option Chunk). taken ++ option_to_list c) (sym none) ∙ w.chunks in
     let parts : chunks old.given accepted ≡ closed old.given accepted ++ marked g.chunk ∷ [] =
-    split accepted w.stands ∙ ap (λ (p : Pumping S). closed old.given accepted ++ option_to_list p.chunk) made in
+    split accepted w.stands ∙ ap (λ (p : Pumping). closed old.given accepted ++ option_to_list p.chunk) made in
     rw made (over_stands contents accepted taken old g None stands.early parts (proper accepted w.stands) took
     (reads_front contents old.given accepted old.coded.setup old.coded.place old.held_back w.reads)
     (λ not. absurd (was_early old g w.going not)))

@@ -11,7 +11,7 @@ use Rattle.sf_coded.specs.declared.types.CodedFault.{CodedFault}
 use Rattle.sf_coded.specs.declared.types.CodedFault.TheVariants.{ReadFault, NoMemory}
 use Rattle.sf_record.specs.Input.{IsOfBytes, coded_fault, not_yet}
 use Rattle.sf_record.specs.Said.{Says, is_video, refused_at_header, said_by, said_of, said_unless, scale_of, setup_fault}
-use Rattle.sf_record.specs.Written.{HeaderTaken}
+use Rattle.sf_record.specs.inner.Written.{HeaderTaken}
 use Rattle.sf_record.specs.declared.faults.TrackFault.{TrackFault}
 
 -- what is so of a setup that is taken

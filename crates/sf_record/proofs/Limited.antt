@@ -6,11 +6,12 @@ use Rattle.std.proofs.lemmas.List.Concat.{flat_map-append}
 use Rattle.sf_tick.specs.declared.types.Stored.{Stored}
 use Rattle.sf_tick.specs.declared.types.Chunk.{Chunk}
 use Rattle.sf_meaning.specs.Stbl.{Row, timed_of}
-use Rattle.sf_meaning.specs.Layout.{samples_of, stored_bytes, rows_from, timed}
-use Rattle.sf_file.specs.Movie.{movie_box_of}
+use Rattle.sf_tick.specs.Samples.{samples_of}
+use Rattle.sf_meaning.specs.Layout.{stored_bytes, rows_from, timed}
+use Rattle.sf_meaning.specs.Layout.{movie_box_of}
 use Rattle.sf_file.specs.Open.{OpenFile, ClosesAs}
 use Rattle.sf_file.specs.declared.out_file.Closing.{Closing}
-use Rattle.sf_record.specs.Holding.{Holds}
+use Rattle.sf_record.specs.inner.Holding.{Holds}
 use Rattle.sf_record.specs.Limits.{box_of_chunks, limit_behind}
 use Rattle.sf_record.specs.declared.limits.LimitShown.TheVariants.{Movie, Count}
 
@@ -31,9 +32,9 @@ length_rows place (c ∷ cs) =
 pub record Known (scale : ℕ) (chunks : List Chunk) (c : Chunk) (movie rows : ℕ) : Type 0 where
   pub count : rows ≡ length (samples_of chunks)
 
-pub known : {S : Type 0} {contents : S → Option (List ℕ)} {begun : Option (List ℕ)} {scale : ℕ} {chunks : List Chunk} {file : OpenFile S} {movie : ℕ} (c : Chunk) → Holds contents begun scale chunks file
+pub known : {begun : Option (List ℕ)} {scale : ℕ} {chunks : List Chunk} {file : OpenFile} {movie : ℕ} (c : Chunk) → Holds begun scale chunks file
     → Known scale chunks c movie (length (timed_of file.tables.rows))
-known {S} {contents} {begun} {scale} {chunks} {file} {movie} c h =
+known {begun} {scale} {chunks} {file} {movie} c h =
     record { count = ap (λ (rs : List Row). length (timed_of rs)) h.stands.rows ∙ length_rows 40 chunks }
 
 -- What an open file tells of its chunks with one more.
@@ -42,9 +43,9 @@ pub record Told (scale : ℕ) (chunks : List Chunk) (c : Chunk) (movie samples :
   pub count : samples ≡ length (samples_of (chunks ++ c ∷ []))
   pub front : samples ≡ length (samples_of chunks) + length c.samples
 
-pub told : {S : Type 0} {contents : S → Option (List ℕ)} {begun : Option (List ℕ)} {scale : ℕ} {chunks : List Chunk} {file : OpenFile S} {closing : Closing} (c : Chunk) → Holds contents begun scale chunks file
+pub told : {begun : Option (List ℕ)} {scale : ℕ} {chunks : List Chunk} {file : OpenFile} {closing : Closing} (c : Chunk) → Holds begun scale chunks file
     → ClosesAs file.scale file.entry (chunks ++ c ∷ []) closing → Told scale chunks c closing.movie_box closing.samples
-told {S} {contents} {begun} {scale} {chunks} {file} {closing} c h t =
+told {begun} {scale} {chunks} {file} {closing} c h t =
     let split : samples_of (chunks ++ c ∷ []) ≡ samples_of chunks ++ c.samples =
     flat_map-append (λ (d : Chunk). d.samples) chunks (c ∷ []) ∙ ap (λ (ss : List Stored). samples_of chunks ++ ss) (append-nil c.samples) in
     record {

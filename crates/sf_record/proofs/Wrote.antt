@@ -8,15 +8,15 @@ use Rattle.sf_gather.specs.declared.given.Given.{Given}
 use Rattle.sf_gather.specs.Chunks.{chunks}
 use Rattle.sf_gather.specs.Gathered.{Gathered}
 use Rattle.sf_file.specs.Open.{IsEmpty, OpenFile}
-use Rattle.sf_record.specs.Copying.{Copied, Limited}
-use Rattle.sf_record.specs.Holding.{Holds}
+use Rattle.sf_record.specs.inner.Copying.{Copied, Limited}
+use Rattle.sf_record.specs.inner.Holding.{Holds}
 use Rattle.sf_record.specs.Input.{IsFront, IsOfBytes, OfInput, ended, read_fault, with_front, Taken}
 use Rattle.sf_record.specs.Limits.{Put, put_all}
 use Rattle.sf_record.specs.Pumping.{NotEndedEarly, Pumping, Works, given_chunks}
 use Rattle.sf_record.specs.Reading.{EndsBy}
 use Rattle.sf_record.specs.Recorded.{answer_by, answer_to, no_file}
 use Rattle.sf_record.specs.Said.{given_at, put_front}
-use Rattle.sf_record.specs.Written.{ClosedAll, ClosedAtLimit, Closes, WroteOf}
+use Rattle.sf_record.specs.inner.Written.{ClosedAll, ClosedAtLimit, Closes, WroteOf}
 use Rattle.sf_record.specs.declared.faults.InputFault.{InputFault}
 use Rattle.sf_record.specs.declared.faults.InputFault.TheVariants.{Coded, Sample as SampleRefused, NotYet}
 use Rattle.sf_record.specs.declared.faults.TrackFault.{TrackFault}
@@ -48,7 +48,7 @@ all_front : (contents : Option (List ℕ)) (given : Given) (accepted : List Stor
 all_front None given accepted fault h = tt
 all_front (Some bytes) given accepted fault h = ([], ap (λ (t : Taken). t.samples) h)
 
-works_front : {S : Type 0} (contents : Option (List ℕ)) (accepted : List Stored) (gave : List Chunk) (pump : Pumping S) (gatherer : Option Gathered)
+works_front : (contents : Option (List ℕ)) (accepted : List Stored) (gave : List Chunk) (pump : Pumping) (gatherer : Option Gathered)
     → Works contents accepted gave pump gatherer → OfInput contents pump.given (IsFront accepted)
 works_front contents accepted gave pump None w = w.front
 works_front contents accepted gave pump (Some g) w = reads_front contents pump.given accepted pump.coded.setup pump.coded.place pump.held_back w.reads
@@ -91,28 +91,28 @@ wrote_unclosed source scale accepted begun told report outcome h =
       | inr none ↦ rw none h.0
     ]
 
-ended_of : {S : Type 0} (contents : Option (List ℕ)) (accepted : List Stored) (gave : List Chunk) (pump : Pumping S) → Works contents accepted gave pump pump.gatherer → pump.gatherer ≡ None
+ended_of : (contents : Option (List ℕ)) (accepted : List Stored) (gave : List Chunk) (pump : Pumping) → Works contents accepted gave pump pump.gatherer → pump.gatherer ≡ None
     → NotEndedEarly pump → EndsBy contents pump.given accepted pump.fault
 ended_of contents accepted gave pump w none not_early =
     let v : Works contents accepted gave pump None = subst (λ (g : Option Gathered). Works contents accepted gave pump g) none w in v.ends not_early
 
 -- the fault of a copied pump that is told as a failed read is one
-pub copied_read : {S O : Type 0} {source : Option (List ℕ)} {contents : O → Option (List ℕ)} {begun : Option (List ℕ)} {accepted : List Stored} {pump : Pumping S} {file : OpenFile O}
-    → Copied source contents begun accepted pump file → NotEndedEarly pump → answer_to pump.fault ≡ ReadFault → pump.fault ≡ Some read_fault
-copied_read {S} {O} {source} {contents} {begun} {accepted} {pump} {file} h live e =
+pub copied_read : {source : Option (List ℕ)} {begun : Option (List ℕ)} {accepted : List Stored} {pump : Pumping} {file : OpenFile}
+    → Copied source begun accepted pump file → NotEndedEarly pump → answer_to pump.fault ≡ ReadFault → pump.fault ≡ Some read_fault
+copied_read {source} {begun} {accepted} {pump} {file} h live e =
     at_read source pump.given accepted pump.fault (ended_of source accepted (given_chunks (chunks pump.given accepted) pump) pump h.stands.works h.over live) e
 
 -- what was written of a pump that was copied
-pub wrote_copied : {S O : Type 0} {source : Option (List ℕ)} {contents : O → Option (List ℕ)} {begun : Option (List ℕ)} {accepted : List Stored} {pump : Pumping S} {file : OpenFile O} {R : Type 0}
+pub wrote_copied : {source : Option (List ℕ)} {begun : Option (List ℕ)} {accepted : List Stored} {pump : Pumping} {file : OpenFile} {R : Type 0}
     (scale : ℕ) (told : Option (List ℕ)) (report : Report) (outcome after : Outcome)
-    → Copied source contents begun accepted pump file → pump.given ≡ given_at scale → NotEndedEarly pump → IsEmpty begun → outcome ≡ answer_to pump.fault
-    → Closes contents file outcome told report after R → WroteOf source scale accepted begun told report after
-wrote_copied {S} {O} {source} {contents} {begun} {accepted} {pump} {file} {R} scale told report outcome after h given live empty e closes =
+    → Copied source begun accepted pump file → pump.given ≡ given_at scale → NotEndedEarly pump → IsEmpty begun → outcome ≡ answer_to pump.fault
+    → Closes file outcome told report after R → WroteOf source scale accepted begun told report after
+wrote_copied {source} {begun} {accepted} {pump} {file} {R} scale told report outcome after h given live empty e closes =
     elim closes [
       | inl closed ↦ (
           let free : (put_front scale accepted).limit ≡ None = subst (λ (gv : Given). (put_all gv.scale (chunks gv accepted)).limit ≡ None) given h.free in
-          let holds : Holds contents begun scale (put_front scale accepted).chunks file =
-          subst (λ (gv : Given). Holds contents begun gv.scale (put_all gv.scale (chunks gv accepted)).chunks file) given h.holds in
+          let holds : Holds begun scale (put_front scale accepted).chunks file =
+          subst (λ (gv : Given). Holds begun gv.scale (put_all gv.scale (chunks gv accepted)).chunks file) given h.holds in
           let ends : EndsBy source (given_at scale) accepted pump.fault =
           subst (λ (gv : Given). EndsBy source gv accepted pump.fault) given (ended_of source accepted (given_chunks (chunks pump.given accepted) pump) pump h.stands.works h.over live) in
           let all : ClosedAll scale accepted begun told report = record { free = free; closed = closed.1 begun scale (put_front scale accepted).chunks empty holds } in
@@ -123,16 +123,16 @@ wrote_copied {S} {O} {source} {contents} {begun} {accepted} {pump} {file} {R} sc
     ]
 
 -- what was written of a pump that met a limit
-pub wrote_limited : {S O : Type 0} {source : Option (List ℕ)} {contents : O → Option (List ℕ)} {begun : Option (List ℕ)} {accepted : List Stored} {limit : LimitShown} {pump : Pumping S} {file : OpenFile O} {R : Type 0}
+pub wrote_limited : {source : Option (List ℕ)} {begun : Option (List ℕ)} {accepted : List Stored} {limit : LimitShown} {pump : Pumping} {file : OpenFile} {R : Type 0}
     (scale : ℕ) (told : Option (List ℕ)) (report : Report) (after : Outcome)
-    → Limited source contents begun accepted limit pump file → pump.given ≡ given_at scale → IsEmpty begun
-    → Closes contents file (Limit limit) told report after R → WroteOf source scale accepted begun told report after
-wrote_limited {S} {O} {source} {contents} {begun} {accepted} {limit} {pump} {file} {R} scale told report after h given empty closes =
+    → Limited source begun accepted limit pump file → pump.given ≡ given_at scale → IsEmpty begun
+    → Closes file (Limit limit) told report after R → WroteOf source scale accepted begun told report after
+wrote_limited {source} {begun} {accepted} {limit} {pump} {file} {R} scale told report after h given empty closes =
     elim closes [
       | inl closed ↦ (
           let met : (put_front scale accepted).limit ≡ Some limit = subst (λ (gv : Given). (put_all gv.scale (chunks gv accepted)).limit ≡ Some limit) given h.limited in
-          let holds : Holds contents begun scale (put_front scale accepted).chunks file =
-          subst (λ (gv : Given). Holds contents begun gv.scale (put_all gv.scale (chunks gv accepted)).chunks file) given h.holds in
+          let holds : Holds begun scale (put_front scale accepted).chunks file =
+          subst (λ (gv : Given). Holds begun gv.scale (put_all gv.scale (chunks gv accepted)).chunks file) given h.holds in
           let front : OfInput source (given_at scale) (IsFront accepted) =
           subst (λ (gv : Given). OfInput source gv (IsFront accepted)) given (works_front source accepted (given_chunks h.taken pump) pump pump.gatherer h.stands.works) in
           subst (λ (o : Outcome). WroteOf source scale accepted begun told report o) (sym closed.0) (front, met, closed.1 begun scale (put_front scale accepted).chunks empty holds)
@@ -168,7 +168,7 @@ front_put : (contents : Option (List ℕ)) (given : Given) (accepted : List Stor
 front_put None given accepted front stays = record { samples = accepted; all = tt; same = refl }
 front_put (Some bytes) given accepted front stays = record { samples = accepted ++ front.0; all = front.1; same = stays front.0 }
 
-same_put : {S : Type 0} (contents : Option (List ℕ)) (accepted : List Stored) (gave : List Chunk) (pump : Pumping S) (gatherer : Option Gathered) → Works contents accepted gave pump gatherer
+same_put : (contents : Option (List ℕ)) (accepted : List Stored) (gave : List Chunk) (pump : Pumping) (gatherer : Option Gathered) → Works contents accepted gave pump gatherer
     → (IsSome gatherer → (more : List Stored) → put_all pump.given.scale (chunks pump.given (accepted ++ more)) ≡ put_all pump.given.scale (chunks pump.given accepted))
     → NotEndedEarly pump → (pump.fault ≡ Some read_fault → ⊥) → SamePut contents pump.given accepted
 same_put contents accepted gave pump None w stays live unfailed = record { samples = accepted; all = ends_all contents pump.given accepted pump.fault (w.ends live) unfailed; same = refl }
@@ -176,9 +176,9 @@ same_put contents accepted gave pump (Some gatherer) w stays live unfailed =
     front_put contents pump.given accepted (works_front contents accepted gave pump (Some gatherer) w) (stays refl)
 
 -- an answer that stands behind a closing stood before it, where it is a limit
-pub closes_limit : {O : Type 0} {contents : O → Option (List ℕ)} {file : OpenFile O} {R : Type 0} (told : Option (List ℕ)) (report : Report) (outcome after : Outcome) (limit : LimitShown)
-    → Closes contents file outcome told report after R → after ≡ Limit limit → outcome ≡ Limit limit
-closes_limit {O} {contents} {file} {R} told report outcome after limit closes is =
+pub closes_limit : {file : OpenFile} {R : Type 0} (told : Option (List ℕ)) (report : Report) (outcome after : Outcome) (limit : LimitShown)
+    → Closes file outcome told report after R → after ≡ Limit limit → outcome ≡ Limit limit
+closes_limit {file} {R} told report outcome after limit closes is =
     elim closes [
       | inl closed ↦ sym closed.0 ∙ is
       | inr unclosed ↦ elim unclosed.1 [
@@ -188,17 +188,17 @@ closes_limit {O} {contents} {file} {R} told report outcome after limit closes is
     ]
 
 -- what was written of a pump that met a limit, whose source didn't fail
-pub closed_limited : {S O : Type 0} {source : Option (List ℕ)} {contents : O → Option (List ℕ)} {begun : Option (List ℕ)} {accepted : List Stored} {met limit : LimitShown} {pump : Pumping S} {file : OpenFile O} {R : Type 0}
+pub closed_limited : {source : Option (List ℕ)} {begun : Option (List ℕ)} {accepted : List Stored} {met limit : LimitShown} {pump : Pumping} {file : OpenFile} {R : Type 0}
     (scale : ℕ) (told : Option (List ℕ)) (report : Report) (after : Outcome)
-    → Limited source contents begun accepted met pump file → pump.given ≡ given_at scale → NotEndedEarly pump → (pump.fault ≡ Some read_fault → ⊥) → IsEmpty begun
-    → Closes contents file (Limit met) told report after R → after ≡ Limit limit → ClosedAtLimit source scale limit begun told report
-closed_limited {S} {O} {source} {contents} {begun} {accepted} {met} {limit} {pump} {file} {R} scale told report after h given live unfailed empty closes is =
+    → Limited source begun accepted met pump file → pump.given ≡ given_at scale → NotEndedEarly pump → (pump.fault ≡ Some read_fault → ⊥) → IsEmpty begun
+    → Closes file (Limit met) told report after R → after ≡ Limit limit → ClosedAtLimit source scale limit begun told report
+closed_limited {source} {begun} {accepted} {met} {limit} {pump} {file} {R} scale told report after h given live unfailed empty closes is =
     let same : met ≡ limit = (let both : Limit met ≡ Limit limit = closes_limit told report (Limit met) after limit closes is in cc) in
     let w : SamePut source pump.given accepted = same_put source accepted (given_chunks h.taken pump) pump pump.gatherer h.stands.works h.stays live unfailed in
     let told_limit : (put_all pump.given.scale (chunks pump.given w.samples)).limit ≡ Some limit = ap (λ (p : Put). p.limit) w.same ∙ h.limited ∙ ap (λ (l : LimitShown). Some l) same in
-    let holds : Holds contents begun scale (put_front scale w.samples).chunks file =
-    subst (λ (gv : Given). Holds contents begun gv.scale (put_all gv.scale (chunks gv w.samples)).chunks file) given
-    (subst (λ (p : Put). Holds contents begun pump.given.scale p.chunks file) (sym w.same) h.holds) in
+    let holds : Holds begun scale (put_front scale w.samples).chunks file =
+    subst (λ (gv : Given). Holds begun gv.scale (put_all gv.scale (chunks gv w.samples)).chunks file) given
+    (subst (λ (p : Put). Holds begun pump.given.scale p.chunks file) (sym w.same) h.holds) in
     elim closes [
       | inl closed ↦ record {
         samples = w.samples;
@@ -221,11 +221,11 @@ unfailed old none failed kept now =
     ]
 
 -- a failed read is told of a pump that was copied where its count rose
-pub read_rose : {S O : Type 0} {source : Option (List ℕ)} {contents : O → Option (List ℕ)} {begun : Option (List ℕ)} {accepted : List Stored} {pump : Pumping S} {file : OpenFile O} {R P : Type 0}
+pub read_rose : {source : Option (List ℕ)} {begun : Option (List ℕ)} {accepted : List Stored} {pump : Pumping} {file : OpenFile} {R P : Type 0}
     (old : Option TrackFault) (told : Option (List ℕ)) (report : Report) (outcome after : Outcome)
-    → Copied source contents begun accepted pump file → NotEndedEarly pump → old ≡ None → outcome ≡ answer_to pump.fault
-    → Closes contents file outcome told report after R → (pump.fault ≡ Some read_fault → (old ≡ Some read_fault) ⊎ P) → after ≡ ReadFault → P
-read_rose {S} {O} {source} {contents} {begun} {accepted} {pump} {file} {R} {P} old told report outcome after h live none e closes failed is =
+    → Copied source begun accepted pump file → NotEndedEarly pump → old ≡ None → outcome ≡ answer_to pump.fault
+    → Closes file outcome told report after R → (pump.fault ≡ Some read_fault → (old ≡ Some read_fault) ⊎ P) → after ≡ ReadFault → P
+read_rose {source} {begun} {accepted} {pump} {file} {R} {P} old told report outcome after h live none e closes failed is =
     elim closes [
       | inl closed ↦ (
           let read : answer_to pump.fault ≡ ReadFault = sym e ∙ sym closed.0 ∙ is in

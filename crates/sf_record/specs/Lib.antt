@@ -1,11 +1,7 @@
+pub mod inner
 pub mod Limits
-pub mod Holding
 pub mod Input
 pub mod Said
 pub mod Reading
-pub mod Going
 pub mod Pumping
-pub mod PumpingCode
-pub mod Copying
 pub mod Recorded
-pub mod Written

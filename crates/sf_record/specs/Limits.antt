@@ -3,14 +3,14 @@ use Rattle.std.specs.Prelude.{ℕ, nat_lt, List, [], ◌∷◌, ◌++◌, length
 use Rattle.std.specs.List.{filter}
 use Rattle.sf_tick.specs.declared.types.Chunk.{Chunk}
 use Rattle.sf_meaning.specs.Entry.{aac_entry}
-use Rattle.sf_meaning.specs.Layout.{samples_of, rows_of, first_dts}
-use Rattle.sf_file.specs.Movie.{movie_box}
+use Rattle.sf_tick.specs.Samples.{samples_of}
+use Rattle.sf_meaning.specs.Layout.{movie_box_of}
 use Rattle.sf_record.specs.declared.limits.LimitShown.{LimitShown}
 use Rattle.sf_record.specs.declared.limits.LimitShown.TheVariants.{Movie, Count}
 
 -- how long the movie box of a file of these chunks is
 abbrev pub box_of_chunks : ℕ → List Chunk → ℕ
-box_of_chunks scale chunks = length (movie_box scale aac_entry (first_dts (samples_of chunks)) (rows_of chunks))
+box_of_chunks scale chunks = length (movie_box_of scale aac_entry chunks)
 
 -- The limit that a file of some chunks passes with one more, if any: its movie box has more than 2^28 bytes, or its track more than 2^24 samples.
 abbrev pub limit_behind : ℕ → List Chunk → Chunk → Option LimitShown

@@ -4,11 +4,12 @@ ghost use Rattle.std.specs.Prelude.{◌≡◌, ℕ, ◌≤◌, ◌<◌, true, fa
 ghost use Rattle.sf_tick.specs.declared.types.Chunk.{Chunk};
 ghost use Rattle.sf_tick.specs.declared.types.Stored.{Stored};
 ghost use Rattle.sf_world.specs.Counts.{Rose};
-ghost use Rattle.sf_record.specs.Copying.{Copied, Copies, Goes, Limited, Puttable, turns_left};
-ghost use Rattle.sf_record.specs.Holding.{Holds};
+ghost use Rattle.sf_world.specs.Views.{Unchanged};
+ghost use Rattle.sf_record.specs.inner.Copying.{Copied, Copies, Goes, Limited, Puttable};
+ghost use Rattle.sf_record.specs.inner.Holding.{Holds};
 ghost use Rattle.sf_record.specs.Input.{read_fault};
 ghost use Rattle.sf_record.specs.Limits.{filled, put_behind};
-ghost use Rattle.sf_record.specs.Pumping.{NotEndedEarly};
+ghost use Rattle.sf_record.specs.Pumping.{NotEndedEarly, turns_left};
 ghost use Rattle.sf_record.specs.declared.limits.LimitShown.{LimitShown};
 
 use crate::limits::LimitShown;
@@ -21,13 +22,13 @@ use sf_world::{Sink, Source};
 // Puts a chunk into the file, unless it is the empty chunk of a track without samples.
 fn put_filled<O: Sink>(file: &mut OutFile<O>, chunk: &Chunk) -> Result<(), PutFault>
     requires { Puttable file.old chunk.now }
-    ensures holds { OnOk result ((begun : Option (List ℕ)) (scale : ℕ) (chunks : List Chunk) → Holds O.contents begun scale chunks file.old
-        → Holds O.contents begun scale (chunks ++ filled (chunk.now ∷ [])) file.new × ((more : List Chunk) → put_behind scale chunks (filled (chunk.now ∷ []) ++ more) ≡ put_behind scale (chunks ++ filled (chunk.now ∷ [])) more)) }
+    ensures holds { OnOk result ((begun : Option (List ℕ)) (scale : ℕ) (chunks : List Chunk) → Holds begun scale chunks file.old
+        → Holds begun scale (chunks ++ filled (chunk.now ∷ [])) file.new × ((more : List Chunk) → put_behind scale chunks (filled (chunk.now ∷ []) ++ more) ≡ put_behind scale (chunks ++ filled (chunk.now ∷ [])) more)) }
     ensures limit { (limit : LimitShown) → result ≡ Err (PutFault.Limit limit) → (file.new ≡ file.old)
-        × ((begun : Option (List ℕ)) (scale : ℕ) (chunks more : List Chunk) → Holds O.contents begun scale chunks file.old
+        × ((begun : Option (List ℕ)) (scale : ℕ) (chunks more : List Chunk) → Holds begun scale chunks file.old
         → put_behind scale chunks (filled (chunk.now ∷ []) ++ more) ≡ record { chunks = chunks; limit = Some limit }) }
-    ensures later { O.faults file.old.sink ≤ O.faults file.new.sink }
-    ensures failed { result ≡ Err PutFault.WriteFault → Rose (O.faults file.old.sink) (O.faults file.new.sink) }
+    ensures later { file.old.sink.faults ≤ file.new.sink.faults }
+    ensures failed { result ≡ Err PutFault.WriteFault → Rose file.old.sink.faults file.new.sink.faults }
 {
     if chunk.samples.is_empty() {
         return Ok(());
@@ -40,25 +41,23 @@ fn copy_turn<S: Source, O: Sink>(
     pump: &mut Pump<S>,
     file: &mut OutFile<O>,
 ) -> Result<bool, PutFault>
-    requires { (begun : Option (List ℕ)) × Goes (S.contents pump.old.coded.source) O.contents begun pump.old file.old }
+    requires { (begun : Option (List ℕ)) × Goes pump.old.coded.source.content begun pump.old file.old }
     ensures goes { result ≡ Ok true → (begun : Option (List ℕ)) (accepted : List Stored) (taken : List Chunk)
-        → Copies (S.contents pump.old.coded.source) O.contents begun accepted taken pump.old file.old
-        → Goes (S.contents pump.old.coded.source) O.contents begun pump.new file.new }
-    ensures less { result ≡ Ok true → turns_left (S.size pump.old.coded.source) pump.new < turns_left (S.size pump.old.coded.source) pump.old }
+        → Copies pump.old.coded.source.content begun accepted taken pump.old file.old
+        → Goes pump.old.coded.source.content begun pump.new file.new }
+    ensures less { result ≡ Ok true → turns_left pump.old.coded.source.size pump.new < turns_left pump.old.coded.source.size pump.old }
     ensures done { result ≡ Ok false → (begun : Option (List ℕ)) (accepted : List Stored) (taken : List Chunk)
-        → Copies (S.contents pump.old.coded.source) O.contents begun accepted taken pump.old file.old
-        → Copied (S.contents pump.old.coded.source) O.contents begun accepted pump.new file.new }
+        → Copies pump.old.coded.source.content begun accepted taken pump.old file.old
+        → (samples : List Stored) × Copied pump.old.coded.source.content begun samples pump.new file.new }
     ensures limit { (limit : LimitShown) → result ≡ Err (PutFault.Limit limit) → (begun : Option (List ℕ)) (accepted : List Stored) (taken : List Chunk)
-        → Copies (S.contents pump.old.coded.source) O.contents begun accepted taken pump.old file.old
-        → Limited (S.contents pump.old.coded.source) O.contents begun accepted limit pump.new file.new }
-    ensures later { O.faults file.old.sink ≤ O.faults file.new.sink }
-    ensures failed { result ≡ Err PutFault.WriteFault → Rose (O.faults file.old.sink) (O.faults file.new.sink) }
-    ensures source_later { S.measure pump.old.coded.source ≤ S.measure pump.new.coded.source }
-    ensures source_failed { pump.new.fault ≡ Some read_fault → (pump.old.fault ≡ Some read_fault) ⊎ Rose (S.measure pump.old.coded.source) (S.measure pump.new.coded.source) }
+        → Copies pump.old.coded.source.content begun accepted taken pump.old file.old
+        → (samples : List Stored) × Limited pump.old.coded.source.content begun samples limit pump.new file.new }
+    ensures later { file.old.sink.faults ≤ file.new.sink.faults }
+    ensures failed { result ≡ Err PutFault.WriteFault → Rose file.old.sink.faults file.new.sink.faults }
+    ensures source_failed { pump.new.fault ≡ Some read_fault → (pump.old.fault ≡ Some read_fault) ⊎ Rose pump.old.coded.source.faults pump.new.coded.source.faults }
     ensures live { NotEndedEarly pump.old → NotEndedEarly pump.new }
     ensures given { pump.new.given ≡ pump.old.given }
-    ensures contents { S.contents pump.new.coded.source ≡ S.contents pump.old.coded.source }
-    ensures size { S.size pump.new.coded.source ≡ S.size pump.old.coded.source }
+    ensures source { Unchanged pump.old.coded.source pump.new.coded.source }
 {
     match pump.step() {
         Stepped::Moved => Ok(true),
@@ -80,20 +79,18 @@ pub(crate) fn copy_chunks<S: Source, O: Sink>(
     pump: &mut Pump<S>,
     file: &mut OutFile<O>,
 ) -> Result<(), PutFault>
-    requires { (begun : Option (List ℕ)) × Goes (S.contents pump.old.coded.source) O.contents begun pump.old file.old }
-    ensures done { OnOk result ((begun : Option (List ℕ)) → Goes (S.contents pump.old.coded.source) O.contents begun pump.old file.old
-        → (accepted : List Stored) × Copied (S.contents pump.old.coded.source) O.contents begun accepted pump.new file.new) }
+    requires { (begun : Option (List ℕ)) × Goes pump.old.coded.source.content begun pump.old file.old }
+    ensures done { OnOk result ((begun : Option (List ℕ)) → Goes pump.old.coded.source.content begun pump.old file.old
+        → (accepted : List Stored) × Copied pump.old.coded.source.content begun accepted pump.new file.new) }
     ensures limit { (limit : LimitShown) → result ≡ Err (PutFault.Limit limit) → (begun : Option (List ℕ))
-        → Goes (S.contents pump.old.coded.source) O.contents begun pump.old file.old
-        → (accepted : List Stored) × Limited (S.contents pump.old.coded.source) O.contents begun accepted limit pump.new file.new }
-    ensures later { O.faults file.old.sink ≤ O.faults file.new.sink }
-    ensures failed { result ≡ Err PutFault.WriteFault → Rose (O.faults file.old.sink) (O.faults file.new.sink) }
-    ensures source_later { S.measure pump.old.coded.source ≤ S.measure pump.new.coded.source }
-    ensures source_failed { pump.new.fault ≡ Some read_fault → (pump.old.fault ≡ Some read_fault) ⊎ Rose (S.measure pump.old.coded.source) (S.measure pump.new.coded.source) }
+        → Goes pump.old.coded.source.content begun pump.old file.old
+        → (accepted : List Stored) × Limited pump.old.coded.source.content begun accepted limit pump.new file.new }
+    ensures later { file.old.sink.faults ≤ file.new.sink.faults }
+    ensures failed { result ≡ Err PutFault.WriteFault → Rose file.old.sink.faults file.new.sink.faults }
+    ensures source_failed { pump.new.fault ≡ Some read_fault → (pump.old.fault ≡ Some read_fault) ⊎ Rose pump.old.coded.source.faults pump.new.coded.source.faults }
     ensures live { NotEndedEarly pump.old → NotEndedEarly pump.new }
     ensures given { pump.new.given ≡ pump.old.given }
-    ensures contents { S.contents pump.new.coded.source ≡ S.contents pump.old.coded.source }
-    ensures size { S.size pump.new.coded.source ≡ S.size pump.old.coded.source }
+    ensures source { Unchanged pump.old.coded.source pump.new.coded.source }
 {
     while copy_turn(pump, file)? {}
     Ok(())

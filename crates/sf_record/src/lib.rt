@@ -9,6 +9,7 @@
 mod copying;
 mod faults;
 mod form;
+mod laws;
 mod limits;
 mod outcome;
 mod pump;
@@ -18,6 +19,7 @@ mod turns;
 mod writing;
 
 pub use faults::{InputFault, TrackFault};
+pub use laws::record_surely;
 pub use limits::LimitShown;
 pub use outcome::{Outcome, RecordEnd, Report};
 pub use pump::{Pump, Stepped};

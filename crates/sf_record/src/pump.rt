@@ -1,15 +1,16 @@
-ghost use Rattle.std.specs.Prelude.{◌≡◌, ◌≤◌, ◌<◌, ◌^◌, ◌++◌, List, [], Option, None, Some, false, IfSome, IfNone, IsSome, ◌⊎◌};
+ghost use Rattle.std.specs.Prelude.{◌≡◌, ◌↔◌, ◌*◌, ◌≤◌, ◌<◌, ◌^◌, ◌++◌, List, [], Option, None, Some, false, IfSome, IsSome, ◌⊎◌};
 ghost use Rattle.std.specs.List.{AllByRecursion};
 ghost use Rattle.std.specs.Option.{option_to_list, option_copied};
 ghost use Rattle.sf_tick.specs.declared.types.Chunk.{Chunk};
 ghost use Rattle.sf_tick.specs.declared.types.Stored.{Stored};
-ghost use Rattle.sf_coded.specs.Progress.{Stands as FileStands};
+ghost use Rattle.sf_coded.specs.Progress.{HasRead};
 ghost use Rattle.sf_gather.specs.Chunks.{chunks, closed, marked};
 ghost use Rattle.sf_gather.specs.Gathered.{Stands as GatherStands};
 ghost use Rattle.sf_gather.specs.Proper.{Proper};
 ghost use Rattle.sf_world.specs.Counts.{Rose};
+ghost use Rattle.sf_world.specs.Views.{Unchanged};
 ghost use Rattle.sf_record.specs.Input.{read_fault};
-ghost use Rattle.sf_record.specs.Pumping.{NotEndedEarly, Stands, StepsTo, left, rest_of};
+ghost use Rattle.sf_record.specs.Pumping.{NotEndedEarly, Stands, StepsTo, left, rest_of, turns_left};
 
 use crate::faults::TrackFault;
 use crate::turns::{Advance, go_on};
@@ -20,12 +21,12 @@ use sf_world::Source;
 use std::alloc::Global;
 use std::marker::Model;
 
-/// What a step of a pump did.
+/// How a pump stands after a step.
 #[derive(Clone, Copy, Debug, PartialEq, Eq)]
 pub enum Stepped {
-    /// A sample was accepted, or nothing more is taken of the input and the last chunk was made.
+    /// One sample was accepted, and no chunk is held now.
     Moved,
-    /// The pump holds a chunk, which is to be taken first.
+    /// The pump holds a chunk now, which is to be taken before the next step does anything.
     HasChunk,
     /// The last chunk was taken.
     Done,
@@ -48,11 +49,8 @@ pub struct Pump<S: Source> {
 
 impl<S: Source> Model for Pump<S> {
     ghost use Rattle.sf_record.specs.Pumping.{Pumping, Sound};
-    ghost use Rattle.sf_record.specs.PumpingCode.{pumping_code};
 
-    ghost Value = { Pumping S };
-
-    ghost coded = { pumping_code S.code };
+    ghost Value = { Pumping };
 
     ghost view = { λ p. record { given = p.given; coded = p.coded; held_back = p.held; gatherer = p.gather; chunk = p.chunk; fault = p.fault } };
 
@@ -63,7 +61,7 @@ impl<S: Source> Pump<S> {
     /// A pump for a coded file of which no sample was read, at `scale` ticks a second. So far the
     /// kind is sound.
     pub fn new(alloc: Global, track: u32, coded: Coded<S>, scale: u32, options: Options) -> Pump<S>
-        requires unread { FileStands (S.contents coded.source) coded.setup [] coded.place }
+        requires unread { HasRead [] coded }
         requires fresh { coded.is_over ≡ false }
         requires kind { coded.setup.kind ≡ Kind.Aac }
         requires scale { 1 ≤ scale }
@@ -71,7 +69,7 @@ impl<S: Source> Pump<S> {
         ensures coded { result.coded ≡ coded }
         ensures gatherer { IsSome result.gatherer }
         ensures chunk { result.chunk ≡ None }
-        ensures stands { Stands (S.contents coded.source) [] [] result }
+        ensures stands { Stands coded.source.content [] [] result }
     {
         let given = Given {
             track,
@@ -90,24 +88,23 @@ impl<S: Source> Pump<S> {
     }
 
     /// Accepts the next sample of the input, unless a chunk is held. At the end of the input, and at
-    /// its first fault, which is kept, the last chunk is made.
+    /// its first fault, which is kept, the last chunk is made, and held.
     pub fn step(&mut self) -> Stepped
         ensures rest { IfSome (rest_of self.old) (λ answer. (result ≡ answer) × (self.new ≡ self.old)) }
-        ensures goes { IfNone (rest_of self.old) ((result ≡ Stepped.Moved) ⊎ (result ≡ Stepped.NoMemory)) }
-        ensures held { result ≡ Stepped.HasChunk → IsSome self.new.chunk }
-        ensures over { result ≡ Stepped.Done → (self.new.chunk ≡ None) × (self.new.gatherer ≡ None) }
-        ensures stands { (accepted : List Stored) (taken : List Chunk) → Stands (S.contents self.old.coded.source) accepted taken self.old
-            → StepsTo (S.contents self.new.coded.source) accepted taken self.new result }
+        ensures moved { result ≡ Stepped.Moved → (self.new.chunk ≡ None) × IsSome self.new.gatherer }
+        ensures held { (result ≡ Stepped.HasChunk) ↔ IsSome self.new.chunk }
+        ensures over { (result ≡ Stepped.Done) ↔ ((self.new.chunk ≡ None) × (self.new.gatherer ≡ None)) }
+        ensures stands { (accepted : List Stored) (taken : List Chunk) → Stands self.old.coded.source.content accepted taken self.old
+            → StepsTo self.new.coded.source.content accepted taken self.new result }
         ensures no_memory { result ≡ Stepped.NoMemory → (self.new.gatherer ≡ self.old.gatherer) × (self.new.chunk ≡ None) × (self.new.fault ≡ self.old.fault) }
         ensures not_early { NotEndedEarly self.old → NotEndedEarly self.new }
-        ensures less { result ≡ Stepped.Moved → left (S.size self.old.coded.source) self.new < left (S.size self.old.coded.source) self.old }
+        ensures less_moved { result ≡ Stepped.Moved → left self.old.coded.source.size self.new < left self.old.coded.source.size self.old }
+        ensures less_held { result ≡ Stepped.HasChunk → 2 * left self.old.coded.source.size self.new < turns_left self.old.coded.source.size self.old }
         ensures failed { self.old.fault ≡ None → self.new.fault ≡ Some read_fault
-            → Rose (S.measure self.old.coded.source) (S.measure self.new.coded.source) }
-        ensures later { S.measure self.old.coded.source ≤ S.measure self.new.coded.source }
+            → Rose self.old.coded.source.faults self.new.coded.source.faults }
         ensures given { self.new.given ≡ self.old.given }
         ensures setup { self.new.coded.setup ≡ self.old.coded.setup }
-        ensures contents { S.contents self.new.coded.source ≡ S.contents self.old.coded.source }
-        ensures size { S.size self.new.coded.source ≡ S.size self.old.coded.source }
+        ensures source { Unchanged self.old.coded.source self.new.coded.source }
     {
         if self.chunk.is_some() {
             return Stepped::HasChunk;
@@ -116,13 +113,14 @@ impl<S: Source> Pump<S> {
             return Stepped::Done;
         };
         match go_on(gather, &mut self.held, &mut self.coded) {
-            Advance::Accepted(closed) => {
-                self.chunk = closed;
-                Stepped::Moved
+            Advance::Accepted(None) => Stepped::Moved,
+            Advance::Accepted(Some(closed)) => {
+                self.chunk = Some(closed);
+                Stepped::HasChunk
             }
             Advance::Ended(fault) => {
                 self.make_last(fault);
-                Stepped::Moved
+                Stepped::HasChunk
             }
             Advance::NoMemory => Stepped::NoMemory,
         }
@@ -150,14 +148,14 @@ impl<S: Source> Pump<S> {
     pub fn take_chunk(&mut self) -> Option<Chunk>
         ensures exact { result ≡ self.old.chunk }
         ensures rest { self.new ≡ record self.old { chunk = None } }
-        ensures stands { (accepted : List Stored) (taken : List Chunk) → Stands (S.contents self.old.coded.source) accepted taken self.old
-            → Stands (S.contents self.new.coded.source) accepted (taken ++ option_to_list result) self.new }
-        ensures proper { (accepted : List Stored) (taken : List Chunk) → Stands (S.contents self.old.coded.source) accepted taken self.old
+        ensures stands { (accepted : List Stored) (taken : List Chunk) → Stands self.old.coded.source.content accepted taken self.old
+            → Stands self.new.coded.source.content accepted (taken ++ option_to_list result) self.new }
+        ensures proper { (accepted : List Stored) (taken : List Chunk) → Stands self.old.coded.source.content accepted taken self.old
             → Proper self.new.given.track self.new.given.scale (taken ++ option_to_list result) }
-        ensures stays { (accepted : List Stored) (taken : List Chunk) → Stands (S.contents self.old.coded.source) accepted taken self.old
+        ensures stays { (accepted : List Stored) (taken : List Chunk) → Stands self.old.coded.source.content accepted taken self.old
             → IsSome self.old.gatherer → (more : List Stored)
             → (rest : List Chunk) × (chunks self.old.given (accepted ++ more) ≡ (taken ++ option_to_list result) ++ rest) }
-        ensures early { (accepted : List Stored) (taken : List Chunk) → Stands (S.contents self.old.coded.source) accepted taken self.old
+        ensures early { (accepted : List Stored) (taken : List Chunk) → Stands self.old.coded.source.content accepted taken self.old
             → IfSome result (λ chunk. AllByRecursion (λ s. s.dts_us ≤ 2 ^ 30) chunk.samples) }
     {
         // The samples of the chunks are the accepted ones, and more samples don't change what was handed out.
@@ -173,8 +171,8 @@ impl<S: Source> Pump<S> {
         ensures over { self.old.gatherer ≡ None → self.new ≡ self.old }
         ensures made { IfSome self.old.gatherer (λ g. self.new
             ≡ record { given = self.old.given; coded = self.old.coded; held_back = None; gatherer = None; chunk = Some (marked g.chunk); fault = None }) }
-        ensures stands { (accepted : List Stored) (taken : List Chunk) → Stands (S.contents self.old.coded.source) accepted taken self.old
-            → Stands (S.contents self.new.coded.source) accepted taken self.new }
+        ensures stands { (accepted : List Stored) (taken : List Chunk) → Stands self.old.coded.source.content accepted taken self.old
+            → Stands self.new.coded.source.content accepted taken self.new }
     {
         self.make_last(None);
     }
@@ -195,7 +193,7 @@ impl<S: Source> Pump<S> {
 
     /// The source alone.
     pub fn give_source(self) -> S
-        ensures { result ≡ self.coded.source }
+        ensures { S.seen result ≡ self.coded.source }
     {
         self.coded.give_source()
     }

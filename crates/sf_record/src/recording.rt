@@ -2,11 +2,12 @@
 
 ghost use Rattle.std.specs.Prelude.{◌≡◌, ◌≢◌, ℕ, ◌≤◌, ◌⊎◌, false, List, [], Some, IfOk, IfErr, MatchResult};
 ghost use Rattle.sf_world.specs.Counts.{Rose};
-ghost use Rattle.sf_coded.specs.Progress.{Stands as FileStands};
+ghost use Rattle.sf_world.specs.Views.{KeptAtMost, Unchanged};
+ghost use Rattle.sf_coded.specs.Progress.{HasRead};
 ghost use Rattle.sf_record.specs.Input.{IsOfBytes, coded_fault};
 ghost use Rattle.sf_record.specs.Recorded.{KeptToLimit, Recorded, answer_for};
 ghost use Rattle.sf_record.specs.Said.{OfSaid, Says, refused_at_header, said_of};
-ghost use Rattle.sf_record.specs.Written.{Ready};
+ghost use Rattle.sf_record.specs.inner.Written.{Ready};
 ghost use Rattle.sf_record.specs.declared.faults.TrackFault.{TrackFault};
 ghost use Rattle.sf_record.specs.declared.limits.LimitShown.{LimitShown};
 
@@ -38,6 +39,7 @@ enum HeaderFault {
 fn unread(fault: CodedFault) -> HeaderFault
     ensures refused { (refused : TrackFault) → result ≡ HeaderFault.Refused refused → (refused ≡ coded_fault fault) × IsOfBytes refused.why }
     ensures read { result ≡ HeaderFault.ReadFault → fault ≡ CodedFault.ReadFault }
+    ensures memory { result ≡ HeaderFault.NoMemory → fault ≡ CodedFault.NoMemory }
 {
     match fault {
         CodedFault::ReadFault => HeaderFault::ReadFault,
@@ -48,12 +50,12 @@ fn unread(fault: CodedFault) -> HeaderFault
 
 // The pump of a coded file of which no sample was read, unless its setup is of a form that isn't taken yet.
 fn pump_of<S: Source>(alloc: Global, coded: Coded<S>) -> Result<Pump<S>, (S, HeaderFault)>
-    requires unread { FileStands (S.contents coded.source) coded.setup [] coded.place }
+    requires unread { HasRead [] coded }
     requires fresh { coded.is_over ≡ false }
-    ensures ready { IfOk result (λ pump. Ready (S.contents coded.source) pump.given.scale pump) }
-    ensures source { MatchResult result (λ pump. pump.coded ≡ coded) (λ e. e.0 ≡ coded.source) }
+    ensures ready { IfOk result (λ pump. Ready coded.source.content pump.given.scale pump) }
+    ensures source { MatchResult result (λ pump. pump.coded ≡ coded) (λ e. S.seen e.0 ≡ coded.source) }
     ensures refused { IfErr result (λ e. (fault : TrackFault) × (e.1 ≡ HeaderFault.Refused fault) × IsOfBytes fault.why
-        × Says (S.contents coded.source) (refused_at_header fault)) }
+        × Says coded.source.content (refused_at_header fault)) }
 {
     if let Some(fault) = setup_fault(coded.setup()) {
         return Err((coded.give_source(), HeaderFault::Refused(fault)));
@@ -64,13 +66,11 @@ fn pump_of<S: Source>(alloc: Global, coded: Coded<S>) -> Result<Pump<S>, (S, Hea
 
 // Reads the header of an input. Where it isn't taken the source comes back.
 fn begin<S: Source>(alloc: Global, source: S) -> Result<Pump<S>, (S, HeaderFault)>
-    ensures ready { IfOk result (λ pump. Ready (S.contents pump.coded.source) pump.given.scale pump) }
+    ensures ready { IfOk result (λ pump. Ready pump.coded.source.content pump.given.scale pump) }
     ensures refused { IfErr result (λ e. (fault : TrackFault) → e.1 ≡ HeaderFault.Refused fault → IsOfBytes fault.why
-        × Says (S.contents source) (refused_at_header fault)) }
-    ensures read { IfErr result (λ e. e.1 ≡ HeaderFault.ReadFault → Rose (S.measure source) (S.measure e.0)) }
-    ensures contents { MatchResult result (λ pump. S.contents pump.coded.source ≡ S.contents source) (λ e. S.contents e.0 ≡ S.contents source) }
-    ensures size { MatchResult result (λ pump. S.size pump.coded.source ≡ S.size source) (λ e. S.size e.0 ≡ S.size source) }
-    ensures later { MatchResult result (λ pump. S.measure source ≤ S.measure pump.coded.source) (λ e. S.measure source ≤ S.measure e.0) }
+        × Says (S.seen source).content (refused_at_header fault)) }
+    ensures read { IfErr result (λ e. e.1 ≡ HeaderFault.ReadFault → Rose (S.seen source).faults (S.seen e.0).faults) }
+    ensures source { MatchResult result (λ pump. Unchanged (S.seen source) pump.coded.source) (λ e. Unchanged (S.seen source) (S.seen e.0)) }
 {
     match Coded::begin(alloc, source) {
         Ok(coded) => pump_of(alloc, coded),
@@ -86,6 +86,7 @@ fn header_answer(fault: HeaderFault) -> Outcome
     ensures no_write { result ≢ Outcome.WriteFault }
     ensures no_limit { (limit : LimitShown) → result ≢ Outcome.Limit limit }
     ensures read_only { result ≡ Outcome.ReadFault → fault ≡ HeaderFault.ReadFault }
+    ensures memory_only { result ≡ Outcome.NoMemory → fault ≡ HeaderFault.NoMemory }
 {
     match fault {
         HeaderFault::Refused(fault) => Outcome::Refused(fault),
@@ -98,6 +99,7 @@ fn header_answer(fault: HeaderFault) -> Outcome
 fn denied_answer(denied: Denied) -> Outcome
     ensures failed { denied ≡ Denied.Failed → result ≡ Outcome.WriteFault }
     ensures no_memory { denied ≡ Denied.NoMemory → result ≡ Outcome.NoMemory }
+    ensures memory_only { result ≡ Outcome.NoMemory → denied ≡ Denied.NoMemory }
     ensures no_limit { (limit : LimitShown) → result ≢ Outcome.Limit limit }
 {
     match denied {
@@ -113,16 +115,15 @@ fn record_pump<S: Source, O: Shelf>(
     name: &str,
     shelf: &mut O,
 ) -> RecordEnd<S>
-    requires { Ready (S.contents pump.coded.source) pump.given.scale pump }
-    ensures recorded { OfSaid (S.contents pump.coded.source) (λ said. Recorded said result.outcome result.report name.now O.names O.files shelf.old shelf.new) }
-    ensures limit { (limit : LimitShown) → result.outcome ≡ Outcome.Limit limit → ¬ Rose (S.measure pump.coded.source) (S.measure result.source)
-        → OfSaid (S.contents pump.coded.source) (λ said. KeptToLimit said limit result.report name.now O.names O.files shelf.old shelf.new) }
-    ensures write { result.outcome ≡ Outcome.WriteFault → Rose (O.faults shelf.old) (O.faults shelf.new) }
-    ensures read { result.outcome ≡ Outcome.ReadFault → Rose (S.measure pump.coded.source) (S.measure result.source) }
-    ensures shelf_later { O.faults shelf.old ≤ O.faults shelf.new }
-    ensures later { S.measure pump.coded.source ≤ S.measure result.source }
-    ensures contents { S.contents result.source ≡ S.contents pump.coded.source }
-    ensures size { S.size result.source ≡ S.size pump.coded.source }
+    requires { Ready pump.coded.source.content pump.given.scale pump }
+    ensures recorded { OfSaid pump.coded.source.content (λ said. Recorded said result.outcome result.report name.now (O.seen shelf.old) (O.seen shelf.new)) }
+    ensures limit { (limit : LimitShown) → result.outcome ≡ Outcome.Limit limit → ¬ Rose pump.coded.source.faults (S.seen result.source).faults
+        → OfSaid pump.coded.source.content (λ said. KeptToLimit said limit result.report name.now (O.seen shelf.old) (O.seen shelf.new)) }
+    ensures kept { KeptAtMost name.now (O.seen shelf.old) (O.seen shelf.new) }
+    ensures write { result.outcome ≡ Outcome.WriteFault → Rose (O.seen shelf.old).faults (O.seen shelf.new).faults }
+    ensures read { result.outcome ≡ Outcome.ReadFault → Rose pump.coded.source.faults (S.seen result.source).faults }
+    ensures shelf_later { (O.seen shelf.old).faults ≤ (O.seen shelf.new).faults }
+    ensures source { Unchanged pump.coded.source (S.seen result.source) }
 {
     closed_file_means();
     let mut pump = pump;
@@ -153,22 +154,22 @@ pub fn record_one<S: Source, O: Shelf>(
     shelf: &mut O,
 ) -> RecordEnd<S>
     // What each answer says of the input, and which file is kept with it.
-    ensures recorded { OfSaid (S.contents source) (λ said. Recorded said result.outcome result.report name.now O.names O.files shelf.old shelf.new) }
+    ensures recorded { OfSaid (S.seen source).content (λ said. Recorded said result.outcome result.report name.now (O.seen shelf.old) (O.seen shelf.new)) }
     // A limit is the one that the whole input meets, unless its source failed in this call: then as far as it was read.
-    ensures limit { (limit : LimitShown) → result.outcome ≡ Outcome.Limit limit → ¬ Rose (S.measure source) (S.measure result.source)
-        → OfSaid (S.contents source) (λ said. KeptToLimit said limit result.report name.now O.names O.files shelf.old shelf.new) }
+    ensures limit { (limit : LimitShown) → result.outcome ≡ Outcome.Limit limit → ¬ Rose (S.seen source).faults (S.seen result.source).faults
+        → OfSaid (S.seen source).content (λ said. KeptToLimit said limit result.report name.now (O.seen shelf.old) (O.seen shelf.new)) }
+    // Whatever happens, the earlier files stand, and at most one more after them.
+    ensures kept { KeptAtMost name.now (O.seen shelf.old) (O.seen shelf.new) }
     // Nothing is made of an input whose header is refused.
-    ensures header { (bytes : List ℕ) (fault : TrackFault) → S.contents source ≡ Some bytes → (said_of bytes).header ≡ Some fault → shelf.new ≡ shelf.old }
+    ensures header { (bytes : List ℕ) (fault : TrackFault) → (S.seen source).content ≡ Some bytes → (said_of bytes).header ≡ Some fault → shelf.new ≡ shelf.old }
     // Faults are told only where a count rose in this call.
-    ensures write { result.outcome ≡ Outcome.WriteFault → Rose (O.faults shelf.old) (O.faults shelf.new) }
-    ensures read { result.outcome ≡ Outcome.ReadFault → Rose (S.measure source) (S.measure result.source) }
+    ensures write { result.outcome ≡ Outcome.WriteFault → Rose (O.seen shelf.old).faults (O.seen shelf.new).faults }
+    ensures read { result.outcome ≡ Outcome.ReadFault → Rose (S.seen source).faults (S.seen result.source).faults }
     // Where no count rose, the answer is the one that the input's bytes call for, or want of memory.
-    ensures complete { (bytes : List ℕ) → S.contents source ≡ Some bytes → ¬ Rose (S.measure source) (S.measure result.source)
-        → ¬ Rose (O.faults shelf.old) (O.faults shelf.new) → (result.outcome ≡ Outcome.NoMemory) ⊎ (result.outcome ≡ answer_for (said_of bytes)) }
-    ensures shelf_later { O.faults shelf.old ≤ O.faults shelf.new }
-    ensures later { S.measure source ≤ S.measure result.source }
-    ensures contents { S.contents result.source ≡ S.contents source }
-    ensures size { S.size result.source ≡ S.size source }
+    ensures complete { (bytes : List ℕ) → (S.seen source).content ≡ Some bytes → ¬ Rose (S.seen source).faults (S.seen result.source).faults
+        → ¬ Rose (O.seen shelf.old).faults (O.seen shelf.new).faults → (result.outcome ≡ Outcome.NoMemory) ⊎ (result.outcome ≡ answer_for (said_of bytes)) }
+    ensures shelf_later { (O.seen shelf.old).faults ≤ (O.seen shelf.new).faults }
+    ensures source { Unchanged (S.seen source) (S.seen result.source) }
 {
     match begin(alloc, source) {
         Ok(pump) => record_pump(alloc, pump, name, shelf),

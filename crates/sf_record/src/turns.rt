@@ -3,9 +3,10 @@ ghost use Rattle.sf_tick.specs.declared.types.Stored.{Stored};
 ghost use Rattle.sf_gather.specs.declared.given.Given.{Given};
 ghost use Rattle.sf_gather.specs.Gathered.{Stands as GatherStands};
 ghost use Rattle.sf_world.specs.Counts.{Rose};
+ghost use Rattle.sf_world.specs.Views.{Unchanged};
 ghost use Rattle.sf_record.specs.Input.{is_late, read_fault};
 ghost use Rattle.sf_record.specs.Reading.{Fits, Reads, TurnReads, TurnFits, TurnGoes, weight, turn_weight};
-ghost use Rattle.sf_record.specs.Going.{AdvancesTo, PutIn, AdvanceGoes, advance_weight};
+ghost use Rattle.sf_record.specs.inner.Going.{AdvancesTo, PutIn, AdvanceGoes, advance_weight};
 
 use crate::faults::{TrackFault, coded_fault, not_yet, sample_fault};
 use sf_coded::{Coded, CodedFault, CodedSample};
@@ -44,17 +45,15 @@ fn is_late(sample: &Sample) -> bool
 fn next_turn<S: Source>(held: &mut Option<CodedSample>, coded: &mut Coded<S>) -> Turn
     ensures held { held.new ≡ None }
     ensures reads { (given : Given) (accepted : List Stored)
-        → Reads (S.contents coded.old.source) given accepted coded.old.setup coded.old.place held.old
-        → TurnReads (S.contents coded.new.source) given accepted coded.new.setup coded.new.place result }
+        → Reads coded.old.source.content given accepted coded.old.setup coded.old.place held.old
+        → TurnReads coded.new.source.content given accepted coded.new.setup coded.new.place result }
     ensures fits { (number : ℕ) → Fits number coded.old.place held.old → TurnFits number coded.new.place result }
     ensures goes { coded.old.is_over ≡ false → TurnGoes coded.new.is_over result }
     ensures over { result ≡ Turn.End None → coded.new.is_over ≡ true }
-    ensures nearer { turn_weight (S.size coded.old.source) coded.new.place result ≤ weight (S.size coded.old.source) coded.old.place held.old }
-    ensures failed { result ≡ Turn.End (Some read_fault) → Rose (S.measure coded.old.source) (S.measure coded.new.source) }
-    ensures later { S.measure coded.old.source ≤ S.measure coded.new.source }
+    ensures nearer { turn_weight coded.old.source.size coded.new.place result ≤ weight coded.old.source.size coded.old.place held.old }
+    ensures failed { result ≡ Turn.End (Some read_fault) → Rose coded.old.source.faults coded.new.source.faults }
     ensures setup { coded.new.setup ≡ coded.old.setup }
-    ensures contents { S.contents coded.new.source ≡ S.contents coded.old.source }
-    ensures size { S.size coded.new.source ≡ S.size coded.old.source }
+    ensures source { Unchanged coded.old.source coded.new.source }
 {
     if let Some(found) = held.take() {
         return Turn::Next(found);
@@ -97,19 +96,17 @@ pub(crate) fn go_on<S: Source>(
 ) -> Advance
     requires { Fits gather.old.chunk.number coded.old.place held.old }
     ensures goes { (accepted : List Stored) → GatherStands accepted gather.old
-        → Reads (S.contents coded.old.source) gather.old.given accepted coded.old.setup coded.old.place held.old
-        → AdvancesTo (S.contents coded.new.source) gather.old.given accepted gather.new coded.new.setup coded.new.place held.new result }
+        → Reads coded.old.source.content gather.old.given accepted coded.old.setup coded.old.place held.old
+        → AdvancesTo coded.new.source.content gather.old.given accepted gather.new coded.new.setup coded.new.place held.new result }
     ensures given { gather.new.given ≡ gather.old.given }
     ensures unchanged { result ≡ Advance.NoMemory → gather.new ≡ gather.old }
     ensures fits { Fits gather.new.chunk.number coded.new.place held.new }
     ensures on { coded.old.is_over ≡ false → AdvanceGoes coded.new.is_over result }
     ensures over { result ≡ Advance.Ended None → coded.new.is_over ≡ true }
-    ensures nearer { advance_weight (S.size coded.old.source) coded.new.place held.new result ≤ weight (S.size coded.old.source) coded.old.place held.old }
-    ensures failed { result ≡ Advance.Ended (Some read_fault) → Rose (S.measure coded.old.source) (S.measure coded.new.source) }
-    ensures later { S.measure coded.old.source ≤ S.measure coded.new.source }
+    ensures nearer { advance_weight coded.old.source.size coded.new.place held.new result ≤ weight coded.old.source.size coded.old.place held.old }
+    ensures failed { result ≡ Advance.Ended (Some read_fault) → Rose coded.old.source.faults coded.new.source.faults }
     ensures setup { coded.new.setup ≡ coded.old.setup }
-    ensures contents { S.contents coded.new.source ≡ S.contents coded.old.source }
-    ensures size { S.size coded.new.source ≡ S.size coded.old.source }
+    ensures source { Unchanged coded.old.source coded.new.source }
 {
     match next_turn(held, coded) {
         Turn::Next(found) => put(gather, held, found),

@@ -3,13 +3,14 @@
 ghost use Rattle.std.specs.Prelude.{◌≡◌, ℕ, ◌≤◌, ◌⊎◌, List, [], Option, None, Some, IfOk, IfErr, IsSome, MatchResult};
 ghost use Rattle.sf_tick.specs.declared.types.Chunk.{Chunk};
 ghost use Rattle.sf_world.specs.Counts.{Rose};
+ghost use Rattle.sf_world.specs.Views.{Unchanged};
 ghost use Rattle.sf_file.specs.Open.{IsEmpty};
-ghost use Rattle.sf_record.specs.Copying.{Goes};
-ghost use Rattle.sf_record.specs.Holding.{Holds};
+ghost use Rattle.sf_record.specs.inner.Copying.{Goes};
+ghost use Rattle.sf_record.specs.inner.Holding.{Holds};
 ghost use Rattle.sf_record.specs.Pumping.{NotEndedEarly};
 ghost use Rattle.sf_record.specs.Recorded.{no_file};
 ghost use Rattle.sf_record.specs.Said.{given_at};
-ghost use Rattle.sf_record.specs.Written.{ClosedAtLimit, Closes, Ready, Wrote};
+ghost use Rattle.sf_record.specs.inner.Written.{ClosedAtLimit, Closes, Ready, Wrote};
 ghost use Rattle.sf_record.specs.declared.limits.LimitShown.{LimitShown};
 
 use crate::copying::copy_chunks;
@@ -32,6 +33,7 @@ pub(crate) struct Written<O> {
 // The answer for a fault of a file.
 fn file_answer(fault: FileFault) -> Outcome
     ensures write { result ≡ Outcome.WriteFault → fault ≡ FileFault.WriteFault }
+    ensures memory { result ≡ Outcome.NoMemory → fault ≡ FileFault.NoMemory }
     ensures own { (result ≡ Outcome.WriteFault) ⊎ (result ≡ Outcome.NoMemory) }
 {
     match fault {
@@ -44,9 +46,9 @@ fn file_answer(fault: FileFault) -> Outcome
 fn open_file<O: Sink>(alloc: Global, sink: O, scale: u32) -> Result<OutFile<O>, (O, FileFault)>
     requires ticks { 1 ≤ scale }
     requires rate { scale ≤ 1000000 }
-    ensures holds { IfOk result (λ f. Holds O.contents (O.contents sink) scale [] f) }
-    ensures later { MatchResult result (λ f. O.faults sink ≤ O.faults f.sink) (λ e. O.faults sink ≤ O.faults e.0) }
-    ensures failed { IfErr result (λ e. e.1 ≡ FileFault.WriteFault → Rose (O.faults sink) (O.faults e.0)) }
+    ensures holds { IfOk result (λ f. Holds (O.seen sink).content scale [] f) }
+    ensures later { MatchResult result (λ f. (O.seen sink).faults ≤ f.sink.faults) (λ e. (O.seen sink).faults ≤ (O.seen e.0).faults) }
+    ensures failed { IfErr result (λ e. e.1 ≡ FileFault.WriteFault → Rose (O.seen sink).faults (O.seen e.0).faults) }
 {
     no_chunks();
     let Ok(entry) = entry(alloc) else {
@@ -57,8 +59,8 @@ fn open_file<O: Sink>(alloc: Global, sink: O, scale: u32) -> Result<OutFile<O>, 
 
 // Closes a file. A fault of the closing is told in place of the outcome.
 fn close_file<O: Sink>(file: OutFile<O>, outcome: Outcome) -> Written<O>
-    ensures closed { Closes O.contents file outcome (O.contents result.sink) result.report result.outcome (Rose (O.faults file.sink) (O.faults result.sink)) }
-    ensures later { O.faults file.sink ≤ O.faults result.sink }
+    ensures closed { Closes file outcome (O.seen result.sink).content result.report result.outcome (Rose file.sink.faults (O.seen result.sink).faults) }
+    ensures later { file.sink.faults ≤ (O.seen result.sink).faults }
 {
     let report = Report {
         size: file.size(),
@@ -80,7 +82,7 @@ fn close_file<O: Sink>(file: OutFile<O>, outcome: Outcome) -> Written<O>
 
 // The file isn't written further.
 fn give_up<O: Sink>(file: OutFile<O>, outcome: Outcome) -> Written<O>
-    ensures sink { result.sink ≡ file.sink }
+    ensures sink { O.seen result.sink ≡ file.sink }
     ensures report { result.report ≡ no_file }
     ensures outcome { result.outcome ≡ outcome }
 {
@@ -93,21 +95,19 @@ fn give_up<O: Sink>(file: OutFile<O>, outcome: Outcome) -> Written<O>
 
 // Puts the chunks of a pump into a file, and closes it.
 fn write_file<S: Source, O: Sink>(pump: &mut Pump<S>, file: OutFile<O>) -> Written<O>
-    requires goes { (begun : Option (List ℕ)) × Goes (S.contents pump.old.coded.source) O.contents begun pump.old file }
+    requires goes { (begun : Option (List ℕ)) × Goes pump.old.coded.source.content begun pump.old file }
     requires live { NotEndedEarly pump.old }
     requires fault { pump.old.fault ≡ None }
     ensures wrote { (begun : Option (List ℕ)) (scale : ℕ) → IsEmpty begun → pump.old.given ≡ given_at scale
-        → Goes (S.contents pump.old.coded.source) O.contents begun pump.old file
-        → Wrote (S.contents pump.old.coded.source) scale begun (O.contents result.sink) result.report result.outcome }
-    ensures limit { (limit : LimitShown) → result.outcome ≡ Outcome.Limit limit → ¬ Rose (S.measure pump.old.coded.source) (S.measure pump.new.coded.source)
-        → (begun : Option (List ℕ)) (scale : ℕ) → IsEmpty begun → pump.old.given ≡ given_at scale → Goes (S.contents pump.old.coded.source) O.contents begun pump.old file
-        → ClosedAtLimit (S.contents pump.old.coded.source) scale limit begun (O.contents result.sink) result.report }
-    ensures write { result.outcome ≡ Outcome.WriteFault → Rose (O.faults file.sink) (O.faults result.sink) }
-    ensures read { result.outcome ≡ Outcome.ReadFault → Rose (S.measure pump.old.coded.source) (S.measure pump.new.coded.source) }
-    ensures later { O.faults file.sink ≤ O.faults result.sink }
-    ensures source_later { S.measure pump.old.coded.source ≤ S.measure pump.new.coded.source }
-    ensures contents { S.contents pump.new.coded.source ≡ S.contents pump.old.coded.source }
-    ensures size { S.size pump.new.coded.source ≡ S.size pump.old.coded.source }
+        → Goes pump.old.coded.source.content begun pump.old file
+        → Wrote pump.old.coded.source.content scale begun (O.seen result.sink).content result.report result.outcome }
+    ensures limit { (limit : LimitShown) → result.outcome ≡ Outcome.Limit limit → ¬ Rose pump.old.coded.source.faults pump.new.coded.source.faults
+        → (begun : Option (List ℕ)) (scale : ℕ) → IsEmpty begun → pump.old.given ≡ given_at scale → Goes pump.old.coded.source.content begun pump.old file
+        → ClosedAtLimit pump.old.coded.source.content scale limit begun (O.seen result.sink).content result.report }
+    ensures write { result.outcome ≡ Outcome.WriteFault → Rose file.sink.faults (O.seen result.sink).faults }
+    ensures read { result.outcome ≡ Outcome.ReadFault → Rose pump.old.coded.source.faults pump.new.coded.source.faults }
+    ensures later { file.sink.faults ≤ (O.seen result.sink).faults }
+    ensures source { Unchanged pump.old.coded.source pump.new.coded.source }
 {
     let mut file = file;
     match copy_chunks(pump, &mut file) {
@@ -124,17 +124,15 @@ pub(crate) fn write_pump<S: Source, O: Sink>(
     pump: &mut Pump<S>,
     sink: O,
 ) -> Written<O>
-    requires ready { Ready (S.contents pump.old.coded.source) pump.old.given.scale pump.old }
-    requires empty { IsEmpty (O.contents sink) }
-    ensures wrote { Wrote (S.contents pump.old.coded.source) pump.old.given.scale (O.contents sink) (O.contents result.sink) result.report result.outcome }
-    ensures limit { (limit : LimitShown) → result.outcome ≡ Outcome.Limit limit → ¬ Rose (S.measure pump.old.coded.source) (S.measure pump.new.coded.source)
-        → ClosedAtLimit (S.contents pump.old.coded.source) pump.old.given.scale limit (O.contents sink) (O.contents result.sink) result.report }
-    ensures write { result.outcome ≡ Outcome.WriteFault → Rose (O.faults sink) (O.faults result.sink) }
-    ensures read { result.outcome ≡ Outcome.ReadFault → Rose (S.measure pump.old.coded.source) (S.measure pump.new.coded.source) }
-    ensures later { O.faults sink ≤ O.faults result.sink }
-    ensures source_later { S.measure pump.old.coded.source ≤ S.measure pump.new.coded.source }
-    ensures contents { S.contents pump.new.coded.source ≡ S.contents pump.old.coded.source }
-    ensures size { S.size pump.new.coded.source ≡ S.size pump.old.coded.source }
+    requires ready { Ready pump.old.coded.source.content pump.old.given.scale pump.old }
+    requires empty { IsEmpty (O.seen sink).content }
+    ensures wrote { Wrote pump.old.coded.source.content pump.old.given.scale (O.seen sink).content (O.seen result.sink).content result.report result.outcome }
+    ensures limit { (limit : LimitShown) → result.outcome ≡ Outcome.Limit limit → ¬ Rose pump.old.coded.source.faults pump.new.coded.source.faults
+        → ClosedAtLimit pump.old.coded.source.content pump.old.given.scale limit (O.seen sink).content (O.seen result.sink).content result.report }
+    ensures write { result.outcome ≡ Outcome.WriteFault → Rose (O.seen sink).faults (O.seen result.sink).faults }
+    ensures read { result.outcome ≡ Outcome.ReadFault → Rose pump.old.coded.source.faults pump.new.coded.source.faults }
+    ensures later { (O.seen sink).faults ≤ (O.seen result.sink).faults }
+    ensures source { Unchanged pump.old.coded.source pump.new.coded.source }
 {
     match open_file(alloc, sink, pump.scale()) {
         Ok(file) => write_file(pump, file),

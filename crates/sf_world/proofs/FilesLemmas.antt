@@ -2,7 +2,7 @@
 use Rattle.std.proofs.Common.{◌≡◌, ℕ, zero, suc, ◌+◌, ◌<◌, List, [], ◌∷◌, ◌++◌, length, slice_get, Some, refl, ◌∙◌, ap, arith, length-append}
 use Rattle.std.proofs.lemmas.Option.{slice_get_past}
 use Rattle.sf_world.specs.declared.kept.Node.{Node, Node', None', Some', out-Node}
-use Rattle.sf_world.specs.Files.{files_from, files_of}
+use Rattle.sf_world.specs.inner.Files.{files_from, files_of}
 
 -- the file of a node stands behind those of the links behind it
 pub files_from-out : (n : Node) → files_from n ≡ files_of (out-Node n).next ++ (out-Node n).contents ∷ []

@@ -1,2 +1,4 @@
 pub mod ContentsLemmas
 pub mod FilesLemmas
+pub mod GrownLemmas
+pub mod KeptLemmas

@@ -1,5 +1,5 @@
 -- Contents, which an object tells as a list of bytes or doesn't tell.
-use Rattle.std.specs.Prelude.{◌≡◌, ℕ, ◌+◌, ◌≤◌, List, [], ◌∷◌, ◌++◌, length, take, drop, Option, Some, None}
+use Rattle.std.specs.Prelude.{◌≡◌, ℕ, ◌+◌, List, [], ◌∷◌, ◌++◌, length, take, drop, Option, Some, None, slice_get}
 
 -- told contents have this length
 abbrev pub HasLength : Option (List ℕ) → ℕ → Type 0
@@ -21,20 +21,6 @@ abbrev pub patched : Option (List ℕ) → ℕ → List ℕ → Option (List ℕ
 patched None at other = None
 patched (Some bytes) at other = Some (take at bytes ++ other ++ drop (at + length other) bytes)
 
--- Some first part of the bytes was put at the end.
-pub record GrowsByPart (before : Option (List ℕ)) (size_before : ℕ) (bytes : List ℕ)
-    (after : Option (List ℕ)) (size_after : ℕ) : Type 0 where
-  pub count : ℕ
-  pub part : count ≤ length bytes
-  pub contents : after ≡ grown before (take count bytes)
-  pub size : size_after ≡ size_before + count
-
--- Some first part of the bytes was put at the end, of an object whose size isn't told.
-pub record GainsPart (whole : List ℕ) (before after : Option (List ℕ)) : Type 0 where
-  pub count : ℕ
-  pub part : count ≤ length whole
-  pub contents : after ≡ grown before (take count whole)
-
 -- Any bytes stand in the range now, and the rest stayed.
 pub record Spoils (before : Option (List ℕ)) (at size : ℕ) (after : Option (List ℕ)) : Type 0 where
   pub bytes : List ℕ
@@ -51,3 +37,8 @@ shelved (Some files) (Some file) = Some (files ++ file ∷ [])
 abbrev pub BeginsEmpty : Option (List (List ℕ)) → Option (List ℕ) → Type 0
 BeginsEmpty None contents = Unit {0}
 BeginsEmpty (Some files) contents = contents ≡ Some []
+
+-- the file that was kept after so many others, where the files are told
+abbrev pub told_file : Option (List (List ℕ)) → ℕ → Option (List ℕ)
+told_file None k = None
+told_file (Some files) k = slice_get files k

@@ -1,8 +1,6 @@
-pub mod CallNumbers
+pub mod inner
 pub mod Contents
 pub mod Counts
-pub mod Files
 pub mod GateName
-pub mod Memory
 pub mod Named
-pub mod Room
+pub mod Views

@@ -13,7 +13,7 @@ pub(crate) struct Calls {
 }
 
 impl Calls {
-    ghost use Rattle.sf_world.specs.CallNumbers.{CallFailed, CallPassed, NextFails};
+    ghost use Rattle.sf_world.specs.inner.CallNumbers.{CallFailed, CallPassed, NextFails};
 
     /// No call was made yet.
     pub(crate) fn new(failing: Vec<u64>) -> Calls

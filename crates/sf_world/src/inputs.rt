@@ -1,5 +1,6 @@
-ghost use Rattle.std.specs.Prelude.{◌≡◌, ℕ, ◌+◌, ◌^◌, ◌<◌, ◌≤◌, Bool, true, false, List, [], ◌∷◌, ◌++◌, Option, IfOk, OnOk, OnErr};
-ghost use Rattle.sf_world.specs.Counts.{HasDenial, both};
+ghost use Rattle.std.specs.Prelude.{◌≡◌, ℕ, ◌+◌, ◌^◌, ◌<◌, ◌≤◌, List, IfOk, OnOk, OnErr};
+ghost use Rattle.sf_world.specs.Counts.{HasDenial};
+ghost use Rattle.sf_world.specs.Views.{Gave, InputsView, IsGiven, NotAsked, NotGiven, TakesBack};
 
 use super::{Denied, Source};
 
@@ -7,48 +8,24 @@ use super::{Denied, Source};
 pub trait Inputs {
     type Src: Source;
 
-    /// The bytes that the source of a name has, where they are told.
-    ghost holds: { Self → List ℕ → Option (List ℕ) };
+    ghost seen: { Self → InputsView };
 
-    /// How many sources can be given back without memory.
-    ghost spare: { Self → ℕ };
-
-    /// How often no source was given.
-    ghost misses: { Self → ℕ };
-
-    /// The faults of the sources that were given back, up to the last value.
-    ghost faults: { Self → ℕ };
-
-    /// The names that were asked for, each with whether a source was given.
-    ghost asked: { Self → List (List ℕ × Bool) };
-
-    /// The faults of each source that was given back.
-    ghost returned: { Self → List ℕ };
-
-    /// Gives the source of a name. `Failed` comes only where `misses` rose.
+    /// Gives the source of a name. `Failed` comes only where the count of misses rose.
     fn fetch(&mut self, name: &str) -> Result<Self::Src, Denied>
-        ensures contents { IfOk result (λ source. Self.Src.contents source ≡ holds self.old name.now) }
-        ensures fresh { IfOk result (λ source. Self.Src.measure source ≡ 0) }
-        ensures spare_ok { OnOk result (spare self.old + 1 ≤ spare self.new) }
-        ensures spare_err { OnErr result (spare self.new ≡ spare self.old) }
-        ensures asked_ok { OnOk result (asked self.new ≡ asked self.old ++ (name.now, true) ∷ []) }
-        ensures asked_failed { result ≡ Err Denied.Failed
-            → asked self.new ≡ asked self.old ++ (name.now, false) ∷ [] }
-        ensures asked_no_memory { result ≡ Err Denied.NoMemory → asked self.new ≡ asked self.old }
-        ensures holds { (other : List ℕ) → holds self.new other ≡ holds self.old other }
-        ensures faults { faults self.new ≡ faults self.old }
-        ensures returned { returned self.new ≡ returned self.old }
-        ensures cause { HasDenial (misses self.old) (misses self.new) result };
+        ensures source { IfOk result (λ source. IsGiven ((seen self.old).holds name.now) (Self.Src.seen source)) }
+        ensures ok { OnOk result (Gave name.now (seen self.old) (seen self.new)) }
+        ensures failed { result ≡ Err Denied.Failed → NotGiven name.now (seen self.old) (seen self.new) }
+        ensures no_memory { result ≡ Err Denied.NoMemory → NotAsked (seen self.old) (seen self.new) }
+        ensures spare_ok { OnOk result ((seen self.old).spare + 1 ≤ (seen self.new).spare) }
+        ensures spare_err { OnErr result ((seen self.new).spare ≡ (seen self.old).spare) }
+        ensures holds { (other : List ℕ) → (seen self.new).holds other ≡ (seen self.old).holds other }
+        ensures faults { (seen self.new).faults ≡ (seen self.old).faults }
+        ensures cause { HasDenial (seen self.old).misses (seen self.new).misses result };
 
     /// Takes a source back, and adds its faults. It takes no memory.
     fn give_back(&mut self, source: Self::Src)
-        requires { 1 ≤ spare self.old }
-        ensures faults { faults self.new ≡ both (faults self.old) (Self.Src.measure source) }
-        ensures returned { returned self.new ≡ returned self.old ++ Self.Src.measure source ∷ [] }
-        ensures spare { spare self.new + 1 ≡ spare self.old }
-        ensures misses { misses self.new ≡ misses self.old }
-        ensures asked { asked self.new ≡ asked self.old }
-        ensures holds { (other : List ℕ) → holds self.new other ≡ holds self.old other };
+        requires { 1 ≤ (seen self.old).spare }
+        ensures { TakesBack (Self.Src.seen source).faults (seen self.old) (seen self.new) };
 
-    ghost bounded: { (inputs : Self) → (misses inputs < 2 ^ 64) × (faults inputs < 2 ^ 64) };
+    ghost bounded: { (inputs : Self) → ((seen inputs).misses < 2 ^ 64) × ((seen inputs).faults < 2 ^ 64) };
 }

@@ -1,5 +1,5 @@
 ghost use Rattle.std.specs.Prelude.{◌≡◌, ◌+◌, ◌≤◌, ◌∷◌, [], ◌++◌, length, slice_get, option_map, IfSome, IfNone};
-ghost use Rattle.sf_world.specs.Files.{files_from, files_of};
+ghost use Rattle.sf_world.specs.inner.Files.{files_from, files_of};
 ghost use Rattle.sf_world.specs.declared.kept.Node.{out-Node};
 
 use sf_list::Bytes;

@@ -11,6 +11,7 @@ mod copying;
 mod failures;
 mod inputs;
 mod kept;
+mod laws;
 mod mem_inputs;
 mod mem_shelf;
 mod mem_sink;
@@ -22,6 +23,7 @@ mod sure;
 
 pub use failures::{Denied, Failed, NoMemory};
 pub use inputs::Inputs;
+pub use laws::{contents_grow, kept_is_a_file, parts_grow};
 pub use mem_inputs::MemInputs;
 pub use mem_shelf::MemShelf;
 pub use mem_sink::MemSink;

@@ -1,7 +1,7 @@
-ghost use Rattle.std.specs.Prelude.{◌≡◌, ℕ, ◌+◌, ◌^◌, ◌<◌, ◌≤◌, true, false, List, [], ◌∷◌, ◌++◌, IsSome, IfOk, OnOk, OnErr};
+ghost use Rattle.std.specs.Prelude.{◌≡◌, ℕ, ◌+◌, ◌^◌, ◌<◌, ◌≤◌, List, [], IsSome, IfOk, OnOk, OnErr};
 ghost use Rattle.sf_world.specs.Counts.{HasDenial};
 ghost use Rattle.sf_world.specs.Named.{named_bytes};
-ghost use Rattle.sf_world.specs.Room.{room_for};
+ghost use Rattle.sf_world.specs.Views.{Gave, IsGiven, NotAsked, NotGiven, TakesBack, told_source};
 
 use super::{Denied, Inputs, Measure, MemSource, Source};
 use sf_list::{Bytes, Text};
@@ -22,16 +22,12 @@ pub struct MemInputs {
 }
 
 impl MemInputs {
-    ghost use Rattle.sf_world.specs.Memory.{failing_reads};
+    ghost use Rattle.sf_world.specs.inner.Memory.{failing_reads};
 
     /// The first pair of a name counts. Each source's reads with the failing numbers fail.
     pub fn new(alloc: Global, named: Vec<(Text, Bytes)>, failing: Vec<u64>) -> MemInputs
-        ensures holds { (name : List ℕ) → ⟦<MemInputs as Inputs>⟧.holds result name ≡ named_bytes named.items name }
-        ensures spare { ⟦<MemInputs as Inputs>⟧.spare result ≡ 0 }
-        ensures misses { ⟦<MemInputs as Inputs>⟧.misses result ≡ 0 }
-        ensures faults { ⟦<MemInputs as Inputs>⟧.faults result ≡ 0 }
-        ensures asked { ⟦<MemInputs as Inputs>⟧.asked result ≡ [] }
-        ensures returned { ⟦<MemInputs as Inputs>⟧.returned result ≡ [] }
+        ensures seen { ⟦<MemInputs as Inputs>⟧.seen result
+            ≡ record { holds = named_bytes named.items; asked = []; returned = []; faults = 0; misses = 0; spare = 0 } }
         ensures failing { failing_reads result ≡ failing.items }
     {
         MemInputs {
@@ -59,37 +55,24 @@ fn find(alloc: Global, named: &[(Text, Bytes)], name: &str) -> Result<Option<Byt
 }
 
 impl Inputs for MemInputs {
-    ghost use Rattle.sf_world.specs.Memory.{failing_reads};
+    ghost use Rattle.sf_world.specs.inner.Memory.{failing_reads, inputs_seen};
 
     type Src = MemSource;
 
-    ghost holds = { λ inputs name. named_bytes inputs.named.items name };
-
-    ghost spare = { λ inputs. room_for inputs.returned };
-
-    ghost misses = { λ inputs. inputs.misses };
-
-    ghost faults = { λ inputs. inputs.faults };
-
-    ghost asked = { λ inputs. inputs.asked.items };
-
-    ghost returned = { λ inputs. inputs.returned.items };
+    ghost seen = { λ inputs. inputs_seen inputs };
 
     ghost bounded = { λ inputs. (inputs.missed, inputs.counted) };
 
     fn fetch(&mut self, name: &str) -> Result<MemSource, Denied>
-        ensures contents { IfOk result (λ source. ⟦<MemSource as Source>⟧.contents source
-            ≡ named_bytes self.old.named.items name.now) }
-        ensures fresh { IfOk result (λ source. ⟦<MemSource as Measure>⟧.measure source ≡ 0) }
-        ensures spare_ok { OnOk result (room_for self.old.returned + 1 ≤ room_for self.new.returned) }
-        ensures spare_err { OnErr result (room_for self.new.returned ≡ room_for self.old.returned) }
-        ensures asked_ok { OnOk result (self.new.asked.items ≡ self.old.asked.items ++ (name.now, true) ∷ []) }
-        ensures asked_failed { result ≡ Err Denied.Failed
-            → self.new.asked.items ≡ self.old.asked.items ++ (name.now, false) ∷ [] }
-        ensures asked_no_memory { result ≡ Err Denied.NoMemory → self.new.asked.items ≡ self.old.asked.items }
+        ensures source { IfOk result (λ source. IsGiven (named_bytes self.old.named.items name.now)
+            (told_source source.contents source.calls.faults)) }
+        ensures ok { OnOk result (Gave name.now (inputs_seen self.old) (inputs_seen self.new)) }
+        ensures failed { result ≡ Err Denied.Failed → NotGiven name.now (inputs_seen self.old) (inputs_seen self.new) }
+        ensures no_memory { result ≡ Err Denied.NoMemory → NotAsked (inputs_seen self.old) (inputs_seen self.new) }
+        ensures spare_ok { OnOk result ((inputs_seen self.old).spare + 1 ≤ (inputs_seen self.new).spare) }
+        ensures spare_err { OnErr result ((inputs_seen self.new).spare ≡ (inputs_seen self.old).spare) }
         ensures named { self.new.named.items ≡ self.old.named.items }
         ensures faults { self.new.faults ≡ self.old.faults }
-        ensures returned { self.new.returned.items ≡ self.old.returned.items }
         ensures cause { HasDenial self.old.misses self.new.misses result }
 
         // It fails exactly where the name isn't there.
@@ -117,7 +100,13 @@ impl Inputs for MemInputs {
         }
     }
 
-    fn give_back(&mut self, source: MemSource) {
+    fn give_back(&mut self, source: MemSource)
+        requires { 1 ≤ (inputs_seen self.old).spare }
+        ensures back { TakesBack source.calls.faults (inputs_seen self.old) (inputs_seen self.new) }
+
+        // The same later reads fail.
+        ensures failing { failing_reads self.new ≡ failing_reads self.old }
+    {
         let count = source.count();
         self.faults = self.faults.saturating_add(count);
         self.returned.push_reserved(count);

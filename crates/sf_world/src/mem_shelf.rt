@@ -1,5 +1,5 @@
-ghost use Rattle.std.specs.Prelude.{◌≡◌, ℕ, ◌+◌, ◌≤◌, ◌≢◌, List, [], ◌∷◌, ◌++◌, length, Some, option_map, IfOk, OnOk, OnErr, map, filter, ◌==◌};
-ghost use Rattle.sf_world.specs.Files.{files_of, told_file};
+ghost use Rattle.std.specs.Prelude.{◌≡◌, ℕ, ◌+◌, ◌≤◌, ◌≢◌, List, [], ◌∷◌, ◌++◌, length, Some, option_map, is_some, IfOk, OnOk, OnErr, map, filter, ◌==◌};
+ghost use Rattle.sf_world.specs.Contents.{told_file};
 
 use super::calls::Calls;
 use super::kept::{Node, file_at, put};
@@ -21,13 +21,11 @@ pub struct MemShelf {
 }
 
 impl MemShelf {
-    ghost use Rattle.sf_world.specs.Memory.{failing_calls};
+    ghost use Rattle.sf_world.specs.inner.Memory.{failing_calls};
 
     /// An empty shelf, whose own calls with the failing numbers fail.
     pub fn new(alloc: Global, failing: Vec<u64>) -> MemShelf
-        ensures names { ⟦<MemShelf as Shelf>⟧.names result ≡ [] }
-        ensures files { ⟦<MemShelf as Shelf>⟧.files result ≡ Some [] }
-        ensures faults { ⟦<MemShelf as Shelf>⟧.faults result ≡ 0 }
+        ensures seen { ⟦<MemShelf as Shelf>⟧.seen result ≡ record { names = []; files = Some []; faults = 0 } }
         ensures failing { failing_calls result 0 ≡ failing.items }
         ensures others { (object : ℕ) → 1 ≤ object → failing_calls result object ≡ [] }
         ensures next { result.calls.next ≡ 0 }
@@ -43,9 +41,7 @@ impl MemShelf {
 
     /// Lets a call of an object fail too. A sink that was made already isn't reached any more.
     pub fn fail_on(&mut self, object: u32, call: u64) -> Result<(), NoMemory>
-        ensures names { ⟦<MemShelf as Shelf>⟧.names self.new ≡ ⟦<MemShelf as Shelf>⟧.names self.old }
-        ensures files { ⟦<MemShelf as Shelf>⟧.files self.new ≡ ⟦<MemShelf as Shelf>⟧.files self.old }
-        ensures faults { ⟦<MemShelf as Shelf>⟧.faults self.new ≡ ⟦<MemShelf as Shelf>⟧.faults self.old }
+        ensures seen { ⟦<MemShelf as Shelf>⟧.seen self.new ≡ ⟦<MemShelf as Shelf>⟧.seen self.old }
         ensures ok { OnOk result (failing_calls self.new object ≡ failing_calls self.old object ++ call ∷ []) }
         ensures others { (other : ℕ) → other ≢ object → failing_calls self.new other ≡ failing_calls self.old other }
         ensures err { OnErr result (failing_calls self.new object ≡ failing_calls self.old object) }
@@ -61,7 +57,7 @@ impl MemShelf {
 
     /// The file that was kept after so many others, if there is one.
     pub fn file(&self, k: u32) -> Option<&[u8]>
-        ensures { option_map (λ bytes. bytes.now) result ≡ told_file (⟦<MemShelf as Shelf>⟧.files self.now) k }
+        ensures { option_map (λ bytes. bytes.now) result ≡ told_file (⟦<MemShelf as Shelf>⟧.seen self.now).files k }
     {
         file_at(&self.files, k)
     }
@@ -80,25 +76,23 @@ fn failing_of(alloc: Global, failing: &[(u32, u64)], object: u64) -> Result<Vec<
 }
 
 impl Shelf for MemShelf {
-    ghost use Rattle.sf_world.specs.CallNumbers.{CallFailed, CallPassed};
-    ghost use Rattle.sf_world.specs.Memory.{contents_of, failing_calls};
+    ghost use Rattle.sf_world.specs.Counts.{HasDenial};
+    ghost use Rattle.sf_world.specs.Views.{IsNew, with_kept};
+    ghost use Rattle.sf_world.specs.inner.CallNumbers.{CallFailed, CallPassed};
+    ghost use Rattle.sf_world.specs.inner.Memory.{failing_calls, shelf_seen, sink_seen};
 
     type Out = MemSink;
 
-    ghost names = { λ shelf. shelf.names.items };
-
-    ghost files = { λ shelf. Some (files_of shelf.files) };
-
-    ghost faults = { λ shelf. shelf.calls.faults };
+    ghost seen = { λ shelf. shelf_seen shelf };
 
     ghost bounded = { λ shelf. shelf.calls.counted };
 
     fn create(&mut self, name: &str) -> Result<MemSink, Denied>
-        ensures empty { IfOk result (λ sink. contents_of sink ≡ []) }
-        ensures fresh { IfOk result (λ sink. sink.calls.faults ≡ 0) }
+        ensures sink { IfOk result (λ sink. IsNew (shelf_seen self.old) (sink_seen sink)) }
         ensures names_ok { OnOk result (self.new.names.items ≡ self.old.names.items ++ name.now ∷ []) }
         ensures names_err { OnErr result (self.new.names.items ≡ self.old.names.items) }
-        ensures files { files_of self.new.files ≡ files_of self.old.files }
+        ensures files { (shelf_seen self.new).files ≡ (shelf_seen self.old).files }
+        ensures cause { HasDenial self.old.calls.faults self.new.calls.faults result }
 
         // Exactly the calls with the failing numbers fail.
         ensures passes { OnOk result (CallPassed self.old.calls self.new.calls) }
@@ -130,7 +124,14 @@ impl Shelf for MemShelf {
         })
     }
 
-    fn keep(&mut self, sink: MemSink) {
+    fn keep(&mut self, sink: MemSink)
+        ensures kept { shelf_seen self.new ≡ with_kept (sink_seen sink) (shelf_seen self.old) }
+        ensures tells { is_some (shelf_seen self.new).files ≡ is_some (shelf_seen self.old).files }
+
+        // The same later calls fail.
+        ensures failing { (object : ℕ) → failing_calls self.new object ≡ failing_calls self.old object }
+        ensures next { self.new.calls.next ≡ self.old.calls.next }
+    {
         self.calls.add(sink.calls.faults());
         put(&mut self.files, sink.node);
     }

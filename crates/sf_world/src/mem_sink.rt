@@ -1,5 +1,7 @@
 ghost use Rattle.std.specs.Prelude.{◌≡◌, ◌+◌, ◌≤◌, ◌++◌, length, refl, Some, OnOk, OnErr};
 ghost use Rattle.sf_world.specs.Contents.{patched, Spoils};
+ghost use Rattle.sf_world.specs.Counts.{HasCause, HasDenial};
+ghost use Rattle.sf_world.specs.Views.{Gains};
 
 use super::calls::Calls;
 use super::kept::Node;
@@ -13,14 +15,10 @@ pub struct MemSink {
 }
 
 impl Sink for MemSink {
-    ghost use Rattle.sf_world.specs.CallNumbers.{CallFailed, CallPassed};
-    ghost use Rattle.sf_world.specs.Memory.{contents_of};
+    ghost use Rattle.sf_world.specs.inner.CallNumbers.{CallFailed, CallPassed};
+    ghost use Rattle.sf_world.specs.inner.Memory.{contents_of, sink_seen};
 
-    ghost contents = { λ sink. Some (contents_of sink) };
-
-    ghost size = { λ sink. length (contents_of sink) };
-
-    ghost faults = { λ sink. sink.calls.faults };
+    ghost seen = { λ sink. sink_seen sink };
 
     ghost whole = { λ sink. refl };
 
@@ -28,8 +26,9 @@ impl Sink for MemSink {
 
     /// A failing call puts nothing.
     fn append(&mut self, bytes: &[u8]) -> Result<(), Denied>
-        ensures ok { OnOk result (contents_of self.new ≡ contents_of self.old ++ bytes.now) }
+        ensures ok { OnOk result (Gains bytes.now (sink_seen self.old) (sink_seen self.new)) }
         ensures err { OnErr result (contents_of self.new ≡ contents_of self.old) }
+        ensures cause { HasDenial (sink_seen self.old).faults (sink_seen self.new).faults result }
 
         // Exactly the calls with the failing numbers fail.
         ensures passes { OnOk result (CallPassed self.old.calls self.new.calls) }

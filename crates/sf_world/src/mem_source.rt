@@ -1,5 +1,6 @@
 ghost use Rattle.std.specs.Prelude.{◌≡◌, ◌-◌, min, length, Some, refl, IfOk, OnOk, OnErr};
 ghost use Rattle.sf_world.specs.Contents.{ReadsAt};
+ghost use Rattle.sf_world.specs.Views.{told_source};
 
 use super::calls::Calls;
 use super::copying::copy_at;
@@ -18,8 +19,7 @@ impl MemSource {
     /// The reads whose numbers (from 0) are among the failing ones fail, and no other. It takes no
     /// memory of the allocator.
     pub fn new(_alloc: Global, contents: Bytes, failing: Vec<u64>) -> MemSource
-        ensures contents { ⟦<MemSource as Source>⟧.contents result ≡ Some contents }
-        ensures faults { ⟦<MemSource as Measure>⟧.measure result ≡ 0 }
+        ensures seen { ⟦<MemSource as Source>⟧.seen result ≡ told_source contents 0 }
         ensures failing { result.calls.failing.items ≡ failing.items }
         ensures next { result.calls.next ≡ 0 }
     {
@@ -31,7 +31,7 @@ impl MemSource {
 
     /// How many reads failed.
     pub fn count(&self) -> u64
-        ensures { result ≡ ⟦<MemSource as Measure>⟧.measure self.now }
+        ensures { result ≡ (⟦<MemSource as Source>⟧.seen self.now).faults }
     {
         self.calls.faults()
     }
@@ -47,15 +47,16 @@ impl Measure for MemSource {
 }
 
 impl Source for MemSource {
-    ghost use Rattle.sf_world.specs.CallNumbers.{CallFailed, CallPassed};
+    ghost use Rattle.sf_world.specs.inner.CallNumbers.{CallFailed, CallPassed};
+    ghost use Rattle.sf_world.specs.Views.{ReadOver, told_source};
 
-    ghost contents = { λ source. Some source.contents };
-
-    ghost size = { λ source. length source.contents };
+    ghost seen = { λ source. told_source source.contents source.calls.faults };
 
     ghost whole = { λ source. refl };
 
     ghost bounded = { λ source. source.calls.counted };
+
+    ghost counted = { λ source. refl };
 
     ghost fitting = { λ source name fits. fits };
 
@@ -68,7 +69,7 @@ impl Source for MemSource {
     fn read_at(&mut self, at: u64, into: &mut [u8]) -> Result<usize, Failed>
         ensures count { IfOk result (λ n. n ≡ min (length into.old) (length self.old.contents - at)) }
         ensures bytes { IfOk result (λ n. ReadsAt (Some self.old.contents) at n into.new) }
-        ensures contents { self.new.contents ≡ self.old.contents }
+        ensures source { ReadOver (told_source self.old.contents self.old.calls.faults) (told_source self.new.contents self.new.calls.faults) result }
 
         // Exactly the calls with the failing numbers fail.
         ensures passes { OnOk result (CallPassed self.old.calls self.new.calls) }

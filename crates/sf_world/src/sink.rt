@@ -1,40 +1,32 @@
-ghost use Rattle.std.specs.Prelude.{◌≡◌, ℕ, ◌+◌, ◌^◌, ◌<◌, ◌≤◌, List, length, Option, OnOk, OnErr};
-ghost use Rattle.sf_world.specs.Contents.{HasLength, grown, patched, GrowsByPart, Spoils};
+ghost use Rattle.std.specs.Prelude.{◌≡◌, ◌+◌, ◌^◌, ◌<◌, ◌≤◌, length, OnOk, OnErr};
+ghost use Rattle.sf_world.specs.Contents.{HasLength, patched, Spoils};
 ghost use Rattle.sf_world.specs.Counts.{HasCause, HasDenial};
+ghost use Rattle.sf_world.specs.Views.{Gains, GainsPart, SinkView};
 
 use super::{Denied, Failed};
 
 /// Bytes that are written at the end, and patched.
 pub trait Sink: Send + Drop {
-    /// The bytes, where the sink tells them.
-    ghost contents: { Self → Option (List ℕ) };
-
-    /// The length in bytes.
-    ghost size: { Self → ℕ };
-
-    ghost faults: { Self → ℕ };
+    ghost seen: { Self → SinkView };
 
     /// Puts bytes at the end. A failed call puts a first part of them there, and without memory
     /// nothing is put.
     fn append(&mut self, bytes: &[u8]) -> Result<(), Denied>
-        ensures ok { OnOk result (contents self.new ≡ grown (contents self.old) bytes.now) }
-        ensures size { OnOk result (size self.new ≡ size self.old + length bytes.now) }
-        ensures failed { result ≡ Err Denied.Failed
-            → GrowsByPart (contents self.old) (size self.old) bytes.now (contents self.new) (size self.new) }
-        ensures no_memory { result ≡ Err Denied.NoMemory
-            → (contents self.new ≡ contents self.old) × (size self.new ≡ size self.old) }
-        ensures cause { HasDenial (faults self.old) (faults self.new) result };
+        ensures ok { OnOk result (Gains bytes.now (seen self.old) (seen self.new)) }
+        ensures failed { result ≡ Err Denied.Failed → GainsPart bytes.now (seen self.old) (seen self.new) }
+        ensures no_memory { result ≡ Err Denied.NoMemory → seen self.new ≡ seen self.old }
+        ensures cause { HasDenial (seen self.old).faults (seen self.new).faults result };
 
     /// Writes over a range that is there. After a failed call the range holds any bytes.
     fn patch(&mut self, at: u64, bytes: &[u8]) -> Result<(), Failed>
-        requires { at + length bytes.now ≤ size self.old }
-        ensures ok { OnOk result (contents self.new ≡ patched (contents self.old) at bytes.now) }
-        ensures failed { OnErr result (Spoils (contents self.old) at (length bytes.now) (contents self.new)) }
-        ensures size { size self.new ≡ size self.old }
-        ensures cause { HasCause (faults self.old) (faults self.new) result };
+        requires { at + length bytes.now ≤ (seen self.old).size }
+        ensures ok { OnOk result ((seen self.new).content ≡ patched (seen self.old).content at bytes.now) }
+        ensures failed { OnErr result (Spoils (seen self.old).content at (length bytes.now) (seen self.new).content) }
+        ensures size { (seen self.new).size ≡ (seen self.old).size }
+        ensures cause { HasCause (seen self.old).faults (seen self.new).faults result };
 
     /// Told contents have the length of the sink.
-    ghost whole: { (sink : Self) → HasLength (contents sink) (size sink) };
+    ghost whole: { (sink : Self) → HasLength (seen sink).content (seen sink).size };
 
-    ghost bounded: { (sink : Self) → faults sink < 2 ^ 64 };
+    ghost bounded: { (sink : Self) → (seen sink).faults < 2 ^ 64 };
 }

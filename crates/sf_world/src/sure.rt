@@ -1,6 +1,8 @@
-ghost use Rattle.std.specs.Prelude.{◌≡◌, ℕ, ◌≤◌, List, [], length, refl, Some, option_map};
+ghost use Rattle.std.specs.Prelude.{◌≡◌, ◌≤◌, [], length, refl, Some, option_map};
 ghost use Rattle.std.proofs.Common.{lit<};
-ghost use Rattle.sf_world.specs.Files.{files_of, told_file};
+ghost use Rattle.sf_world.specs.Contents.{told_file};
+ghost use Rattle.sf_world.specs.Views.{told_sink, told_source};
+ghost use Rattle.sf_world.specs.inner.Files.{files_of};
 ghost use Rattle.sf_world.specs.declared.kept.Node.{out-Node};
 
 use super::copying::copy_at;
@@ -18,7 +20,7 @@ pub struct SureSource {
 impl SureSource {
     /// The bytes are told. It takes no memory of the allocator.
     pub fn new(_alloc: Global, contents: Bytes) -> SureSource
-        ensures { ⟦<SureSource as Source>⟧.contents result ≡ Some contents }
+        ensures { ⟦<SureSource as Source>⟧.seen result ≡ told_source contents 0 }
     {
         SureSource { contents }
     }
@@ -34,13 +36,13 @@ impl Measure for SureSource {
 }
 
 impl Source for SureSource {
-    ghost contents = { λ source. Some source.contents };
-
-    ghost size = { λ source. length source.contents };
+    ghost seen = { λ source. told_source source.contents 0 };
 
     ghost whole = { λ source. refl };
 
     ghost bounded = { λ source. lit< tt };
+
+    ghost counted = { λ source. refl };
 
     ghost fitting = { λ source name fits. fits };
 
@@ -62,11 +64,7 @@ pub struct SureSink {
 }
 
 impl Sink for SureSink {
-    ghost contents = { λ sink. Some (out-Node sink.node.value).contents };
-
-    ghost size = { λ sink. length (out-Node sink.node.value).contents };
-
-    ghost faults = { λ sink. 0 };
+    ghost seen = { λ sink. told_sink (out-Node sink.node.value).contents 0 };
 
     ghost whole = { λ sink. refl };
 
@@ -94,8 +92,7 @@ pub struct SureShelf {
 impl SureShelf {
     /// An empty shelf.
     pub fn new(alloc: Global) -> SureShelf
-        ensures names { ⟦<SureShelf as Shelf>⟧.names result ≡ [] }
-        ensures files { ⟦<SureShelf as Shelf>⟧.files result ≡ Some [] }
+        ensures { ⟦<SureShelf as Shelf>⟧.seen result ≡ record { names = []; files = Some []; faults = 0 } }
     {
         SureShelf {
             alloc,
@@ -106,7 +103,7 @@ impl SureShelf {
 
     /// The file that was kept after so many others, if there is one.
     pub fn file(&self, k: u32) -> Option<&[u8]>
-        ensures { option_map (λ bytes. bytes.now) result ≡ told_file (⟦<SureShelf as Shelf>⟧.files self.now) k }
+        ensures { option_map (λ bytes. bytes.now) result ≡ told_file (⟦<SureShelf as Shelf>⟧.seen self.now).files k }
     {
         file_at(&self.files, k)
     }
@@ -115,11 +112,7 @@ impl SureShelf {
 impl Shelf for SureShelf {
     type Out = SureSink;
 
-    ghost names = { λ shelf. shelf.names.items };
-
-    ghost files = { λ shelf. Some (files_of shelf.files) };
-
-    ghost faults = { λ shelf. 0 };
+    ghost seen = { λ shelf. record { names = shelf.names.items; files = Some (files_of shelf.files); faults = 0 } };
 
     ghost bounded = { λ shelf. lit< tt };
 
@@ -147,7 +140,7 @@ pub struct MemText {
 impl MemText {
     /// An empty text.
     pub fn new(alloc: Global) -> MemText
-        ensures { ⟦<MemText as Sink>⟧.contents result ≡ Some [] }
+        ensures { ⟦<MemText as Sink>⟧.seen result ≡ told_sink [] 0 }
     {
         MemText {
             bytes: Bytes::new(alloc),
@@ -156,18 +149,14 @@ impl MemText {
 
     /// Lends the bytes so far.
     pub fn bytes(&self) -> &[u8]
-        ensures { ⟦<MemText as Sink>⟧.contents self.now ≡ Some result.now }
+        ensures { (⟦<MemText as Sink>⟧.seen self.now).content ≡ Some result.now }
     {
         self.bytes.as_slice()
     }
 }
 
 impl Sink for MemText {
-    ghost contents = { λ text. Some text.bytes };
-
-    ghost size = { λ text. length text.bytes };
-
-    ghost faults = { λ text. 0 };
+    ghost seen = { λ text. told_sink text.bytes 0 };
 
     ghost whole = { λ text. refl };
 

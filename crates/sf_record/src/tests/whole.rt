@@ -13,10 +13,10 @@ use std::test::Fail;
 
 // All chunks of an input: those of the samples that are accepted of it, and its fault is kept.
 fn all_chunks<S: Source>(alloc: Global, pump: &mut Pump<S>) -> Result<Vec<Chunk>, AllocError>
-    requires stands { Stands (S.contents pump.old.coded.source) [] [] pump.old }
+    requires stands { Stands pump.old.coded.source.content [] [] pump.old }
     requires not_early { NotEndedEarly pump.old }
     ensures { IfOk result (λ v. (accepted : List Stored) × (v.items ≡ chunks pump.new.given accepted)
-        × EndsBy (S.contents pump.new.coded.source) pump.new.given accepted pump.new.fault) }
+        × EndsBy pump.new.coded.source.content pump.new.given accepted pump.new.fault) }
 {
     let mut chunks = Vec::new(alloc);
     loop {

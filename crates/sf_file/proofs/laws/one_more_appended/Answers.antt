@@ -2,4 +2,4 @@ use Rattle.sf_file.proofs.HoldableGrows.{stands_holdable}
 use Rattle.sf_file.proofs.laws.one_more_appended.Goals as goal
 
 pub returns : goal.returns
-returns g c = λ begun chunks file chunk. stands_holdable chunk
+returns c = λ begun chunks file chunk. stands_holdable chunk

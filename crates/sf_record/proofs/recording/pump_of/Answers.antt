@@ -2,7 +2,7 @@ use Rattle.std.proofs.Common.{◌≡◌, ℕ, Some, None, refl, sym, ap, ◌∙�
 use Rattle.sf_tick.specs.declared.types.Setup.{Setup}
 use Rattle.sf_gather.specs.declared.given.Given.{Given}
 use Rattle.sf_record.specs.Said.{given_at, scale_of, setup_fault}
-use Rattle.sf_record.specs.Written.{HeaderTaken}
+use Rattle.sf_record.specs.inner.Written.{HeaderTaken}
 use Rattle.sf_record.proofs.Headers.{Form, form_is, header_taken, scale_rate, setup_refused}
 use Rattle.sf_record.proofs.recording.pump_of.Goals as goal
 
@@ -31,5 +31,5 @@ returns-clause-ready g c =
       rate = rw (scale, of_setup) rate;
       stands = c.new.ensures.stands;
       live = c.new.ensures.gatherer;
-      header = subst (λ (n : ℕ). HeaderTaken (g.S.Source.contents c.args.coded.source) n) (sym (scale ∙ of_setup)) taken;
+      header = subst (λ (n : ℕ). HeaderTaken c.args.coded.source.content n) (sym (scale ∙ of_setup)) taken;
     }

@@ -1,6 +1,6 @@
 -- Both nodes go down the chain, one so many links ahead of the other, whose chain still holds the file.
 use Rattle.std.proofs.Common.{◌≡◌, ◌+◌, length, slice_get}
-use Rattle.sf_world.specs.Files.{files_from, files_of}
+use Rattle.sf_world.specs.inner.Files.{files_from, files_of}
 use Rattle.sf_world.proofs.kept.file_at.Given as goal
 
 abbrev pub invariant-loop-ahead : goal.invariant-loop-ahead

@@ -1,22 +1,19 @@
-use Rattle.std.proofs.Common.{◌≡◌, ℕ, ◌+◌, length, List, ◌++◌, OnOk, Result, Ok, Err, ap, sym, subst, ◌∙◌, append-nil, arith}
+use Rattle.std.proofs.Common.{◌≡◌, ℕ, ◌+◌, length, List, ◌++◌, ap, sym, subst, ◌∙◌, append-nil, arith}
 use Rattle.std.proofs.lemmas.Bool.Decides.{nat_tests}
 use Rattle.std.proofs.lemmas.List.{nil_from_length}
-use Rattle.sf_coded.specs.Window.{AreFrom}
+use Rattle.std.proofs.lemmas.Result.{on_ok_weaker}
+use Rattle.sf_world.specs.Views.{SourceView}
+use Rattle.sf_coded.specs.inner.Window.{AreFrom}
 use Rattle.sf_coded.proofs.Windows.{front_held, joined_from}
 use Rattle.sf_coded.proofs.blocks.Blocks.read.Goals as goal
-
--- what holds at Ok is put in another form
-at_ok : {A E P Q : Type 0} (r : Result A E) → (P → Q) → OnOk r P → OnOk r Q
-at_ok (Ok a) f p = f p
-at_ok (Err e) f p = p
 
 pub returns-then-is_empty-clause-bytes : goal.returns-then-is_empty-clause-bytes
 returns-then-is_empty-clause-bytes g c =
     let b = c.self.inside.block in
-    let told = g.S.Source.contents c.args.self.now in
+    let told = c.args.self.now.content in
     let rest = c.split_at_mut-held.result.1.now in
-    let front = front_held (g.S.Source.contents c.self.inside.source) told b.bytes.items b.from b.held c.args.at c.held_from-count.result c.split_at_mut-held.result.0.now c.copy.new.into
-    (ap g.S.Source.contents c.self.view_is) c.self.invariant.1.bytes c.held_from-count.ensures.covers c.split_at_mut-held.ensures.front_len c.copy.auto.into c.copy.ensures in
+    let front = front_held (g.S.Source.seen c.self.inside.source).content told b.bytes.items b.from b.held c.args.at c.held_from-count.result c.split_at_mut-held.result.0.now c.copy.new.into
+    (ap (λ (v : SourceView). v.content) c.self.view_is) c.self.invariant.1.bytes c.held_from-count.ensures.covers c.split_at_mut-held.ensures.front_len c.copy.auto.into c.copy.ensures in
     let e = c.is_empty.ensures in
     let t = c.if-is_empty.true in
     let none : length rest ≡ 0 = grind (arith, nat_tests) in
@@ -26,11 +23,11 @@ returns-then-is_empty-clause-bytes g c =
 pub returns-clause-bytes : goal.returns-clause-bytes
 returns-clause-bytes g c =
     let b = c.self.inside.block in
-    let told = g.S.Source.contents c.args.self.now in
+    let told = c.args.self.now.content in
     let len = c.split_at_mut-held.ensures.front_len in
-    let front = front_held (g.S.Source.contents c.self.inside.source) told b.bytes.items b.from b.held c.args.at c.held_from-count.result c.split_at_mut-held.result.0.now c.copy.new.into
-    (ap g.S.Source.contents c.self.view_is) c.self.invariant.1.bytes c.held_from-count.ensures.covers len c.copy.auto.into c.copy.ensures in
+    let front = front_held (g.S.Source.seen c.self.inside.source).content told b.bytes.items b.from b.held c.args.at c.held_from-count.result c.split_at_mut-held.result.0.now c.copy.new.into
+    (ap (λ (v : SourceView). v.content) c.self.view_is) c.self.invariant.1.bytes c.held_from-count.ensures.covers len c.copy.auto.into c.copy.ensures in
     let place : c.args.at + c.held_from-count.result ≡ c.args.at + length c.copy.new.into = ap (λ (n : ℕ). c.args.at + n) (sym (c.copy.auto.into ∙ len)) in
-    at_ok c.read_anew.result (λ behind. joined_from told c.args.at c.copy.new.into c.read_anew.new.into front
+    on_ok_weaker c.read_anew.result (λ behind. joined_from told c.args.at c.copy.new.into c.read_anew.new.into front
     (subst (λ (n : ℕ). AreFrom told n c.read_anew.new.into) place behind))
     c.read_anew.ensures.bytes

@@ -20,8 +20,8 @@ invariant_of-self-2 g c =
 
 pub returns-clause-stands : goal.returns-clause-stands
 returns-clause-stands g c begun chunks s =
-    stands_more c.reserve_chunk.new.self c.args.chunk.now (subst (λ (f : OpenFile g.row.S.Denot). Stands g.S.Sink.contents begun chunks f) (sym c.self.view_is) s)
+    stands_more c.reserve_chunk.new.self c.args.chunk.now (subst (λ (f : OpenFile). Stands begun chunks f) (sym c.self.view_is) s)
     c.reserve_chunk.ensures.rows c.reserve_chunk.ensures.first c.add_chunk.ensures.rows c.add_chunk.ensures.first
     (c.last_behind-self-inside.ensures ∙ ap (λ (ss : List Stored). last_from c.self.inside.last ss) c.as_slice-3.ensures)
     (ap (λ (n : ℕ). c.self.inside.end + n) (c.len.ensures ∙ ap length (c.in-Ok.ensures ∙ ap (λ (ss : List Stored). stored_bytes ss) c.as_slice.ensures)))
-    (c.in_ok-put.ensures.ok ∙ ap (λ (b : List ℕ). grown (g.S.Sink.contents c.self.inside.sink) b) (c.as_slice-2.ensures ∙ c.in-Ok.ensures ∙ ap (λ (ss : List Stored). stored_bytes ss) c.as_slice.ensures))
+    (c.in_ok-put.ensures.ok.content ∙ ap (λ (b : List ℕ). grown (g.S.Sink.seen c.self.inside.sink).content b) (c.as_slice-2.ensures ∙ c.in-Ok.ensures ∙ ap (λ (ss : List Stored). stored_bytes ss) c.as_slice.ensures))

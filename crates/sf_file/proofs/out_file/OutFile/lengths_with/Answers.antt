@@ -14,12 +14,12 @@ duration_with-requires g c = (grows_seen c.self.view_is c.self.invariant c.requi
 
 pub returns-clause-stbl : goal.returns-clause-stbl
 returns-clause-stbl g c =
-    subst (λ (f : OpenFile g.row.S.Denot). c.size_with-stbl.result ≡ length (stbl_box f.entry (with_chunk f.tables.rows f.end c.args.chunk.now))) c.self.view_is
+    subst (λ (f : OpenFile). c.size_with-stbl.result ≡ length (stbl_box f.entry (with_chunk f.tables.rows f.end c.args.chunk.now))) c.self.view_is
     (stbl_of c.self.inside.entry (with_chunk c.self.inside.tables.rows c.self.inside.end c.args.chunk.now) (c.size_with-stbl.ensures.exact c.self.inside.entry (sym c.len-entry_len.ensures)))
 
 pub returns-clause-brief : goal.returns-clause-brief
 returns-clause-brief g c =
-    subst (λ (f : OpenFile g.row.S.Denot). microseconds f.scale c.duration_with.result < 2 ^ 63) c.self.view_is
+    subst (λ (f : OpenFile). microseconds f.scale c.duration_with.result < 2 ^ 63) c.self.view_is
     (rw (c.duration_with.ensures c.self.inside.end) (grows_seen c.self.view_is c.self.invariant c.requires).short)
 
 pub returns-clause-bound : goal.returns-clause-bound

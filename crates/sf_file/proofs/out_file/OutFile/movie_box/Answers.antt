@@ -22,8 +22,8 @@ unfolding movie_box
 returns g c =
     let parts = stbl_parts c.self.inside.entry c.self.inside.tables.rows in
     let stbl : c.as_slice-2.result.now ≡ box_of (codes "stbl") (tiled parts) = rw (c.as_slice-2.ensures, c.in_ok-encode.ensures.ok, c.new-stbl.ensures, c.as_slice.ensures) refl in
-    let start : c.start_us.result ≡ start_of c.self.inside.tables.first_dts = subst (λ (f : OpenFile g.row.S.Denot). c.start_us.result ≡ start_of f.tables.first_dts) (sym c.self.view_is) c.start_us.ensures in
-    subst (λ (f : OpenFile g.row.S.Denot). c.put_moov.new.out ≡ closing_box f) c.self.view_is
+    let start : c.start_us.result ≡ start_of c.self.inside.tables.first_dts = subst (λ (f : OpenFile). c.start_us.result ≡ start_of f.tables.first_dts) (sym c.self.view_is) c.start_us.ensures.start in
+    subst (λ (f : OpenFile). c.put_moov.new.out ≡ closing_box f) c.self.view_is
     (c.in_ok-put_moov.ensures.put parts stbl
     ∙ ap (λ (b : List ℕ). b ++ box_of (codes "moov") (tiled (moov_with c.self.inside.scale c.duration.result c.start_us.result parts))) c.new-out.ensures
     ∙ ap (λ (d : ℕ). box_of (codes "moov") (tiled (moov_with c.self.inside.scale d c.start_us.result parts))) c.duration.ensures

@@ -6,5 +6,5 @@ use Rattle.sf_file.proofs.out_file.OutFile.samples.Goals as goal
 
 pub returns-clause-whole : goal.returns-clause-whole
 returns-clause-whole g c begun chunks s =
-    c.count.ensures ∙ ap (λ (f : OpenFile g.row.S.Denot). length (timed_of f.tables.rows)) c.self.view_is
+    c.count.ensures ∙ ap (λ (f : OpenFile). length (timed_of f.tables.rows)) c.self.view_is
     ∙ stands_count s

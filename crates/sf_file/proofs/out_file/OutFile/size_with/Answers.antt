@@ -16,9 +16,9 @@ bytes_of-requires-clause-short g c = rw c.as_slice.ensures (grows_seen c.self.vi
 
 pub returns-clause-movie_box : goal.returns-clause-movie_box
 returns-clause-movie_box g c =
-    let duration = subst (λ (f : OpenFile g.row.S.Denot). c.lengths_with-stbl.result.1 ≡ duration_in_rows (with_chunk f.tables.rows f.end c.args.chunk.now)) (sym c.self.view_is) c.lengths_with-stbl.ensures.duration in
-    let stbl = subst (λ (f : OpenFile g.row.S.Denot). c.lengths_with-stbl.result.0 ≡ length (stbl_box f.entry (with_chunk f.tables.rows f.end c.args.chunk.now))) (sym c.self.view_is) c.lengths_with-stbl.ensures.stbl in
-    subst (λ (f : OpenFile g.row.S.Denot). c.moov_len-movie_box.result ≡ length (closing_box_with f c.args.chunk.now)) c.self.view_is
+    let duration = subst (λ (f : OpenFile). c.lengths_with-stbl.result.1 ≡ duration_in_rows (with_chunk f.tables.rows f.end c.args.chunk.now)) (sym c.self.view_is) c.lengths_with-stbl.ensures.duration in
+    let stbl = subst (λ (f : OpenFile). c.lengths_with-stbl.result.0 ≡ length (stbl_box f.entry (with_chunk f.tables.rows f.end c.args.chunk.now))) (sym c.self.view_is) c.lengths_with-stbl.ensures.stbl in
+    subst (λ (f : OpenFile). c.moov_len-movie_box.result ≡ length (closing_box_with f c.args.chunk.now)) c.self.view_is
     (box_made_with c.self.inside.scale c.self.inside.entry (start_of (first_dts_with c.self.inside.tables.first_dts c.args.chunk.now.samples)) (with_chunk c.self.inside.tables.rows c.self.inside.end c.args.chunk.now) duration stbl c.moov_len-movie_box.ensures.exact)
 
 pub overflow_add-result-2 : goal.overflow_add-result-2
@@ -30,7 +30,7 @@ returns-clause-bytes g c = sized_with_as c.args.chunk.now c.self.view_is (c.byte
 
 pub returns-clause-whole : goal.returns-clause-whole
 returns-clause-whole g c begun chunks s =
-    let rows : length (timed_of c.self.inside.tables.rows) ≡ length (timed_of c.args.self.now.tables.rows) = ap (λ (f : OpenFile g.row.S.Denot). length (timed_of f.tables.rows)) c.self.view_is in
+    let rows : length (timed_of c.self.inside.tables.rows) ≡ length (timed_of c.args.self.now.tables.rows) = ap (λ (f : OpenFile). length (timed_of f.tables.rows)) c.self.view_is in
     record {
       whole = returns-clause-bytes g c ∙ sym (stands_length_with c.args.chunk.now s);
       box = returns-clause-movie_box g c ∙ ap (λ (b : List ℕ). length b) (box_more c.args.chunk.now s);

@@ -3,7 +3,7 @@ use Rattle.sf_tick.specs.declared.types.Chunk.{Chunk}
 use Rattle.sf_tick.specs.declared.types.Stored.{Stored}
 use Rattle.sf_gather.specs.declared.given.Given.{Given}
 use Rattle.sf_gather.specs.Chunks.{chunks, closed}
-use Rattle.sf_gather.specs.Proper.{samples_of}
+use Rattle.sf_tick.specs.Samples.{samples_of}
 use Rattle.sf_record.proofs.Early.{chunk_early, chunk_stays}
 use Rattle.sf_record.proofs.pump.Pump.take_chunk.Goals as goal
 

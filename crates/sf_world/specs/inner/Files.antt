@@ -1,5 +1,5 @@
 -- The files that a shelf in memory keeps: a chain of nodes, whose first is the last file.
-use Rattle.std.specs.Prelude.{ℕ, List, [], ◌∷◌, ◌++◌, Option, Some, None, slice_get}
+use Rattle.std.specs.Prelude.{ℕ, List, [], ◌∷◌, ◌++◌, Option, Some, None}
 use Rattle.std.specs.declared.alloc.Global.{Global}
 use Rattle.std.specs.declared.boxed.Box.{Box}
 use Rattle.sf_world.specs.declared.kept.Node.{Node, Node', Held-Node-next, None', Some'}
@@ -17,8 +17,3 @@ abbrev mutual
 abbrev pub files_of : Option (Box Node Global) → List (List ℕ)
 files_of None = []
 files_of (Some b) = files_from b.value
-
--- the file that was kept after so many others, where the files are told
-abbrev pub told_file : Option (List (List ℕ)) → ℕ → Option (List ℕ)
-told_file None k = None
-told_file (Some files) k = slice_get files k

@@ -6,8 +6,9 @@ use Rattle.sf_world.specs.Contents.{grown}
 use Rattle.sf_file.specs.Holdable.{Holdable}
 use Rattle.sf_file.specs.Open.{IsEmpty, OpenFile}
 use Rattle.sf_meaning.specs.Entry.{aac_entry}
-use Rattle.sf_meaning.specs.Layout.{layout, samples_of}
-use Rattle.sf_record.specs.Holding.{Holds}
+use Rattle.sf_tick.specs.Samples.{samples_of}
+use Rattle.sf_meaning.specs.Layout.{layout}
+use Rattle.sf_record.specs.inner.Holding.{Holds}
 use Rattle.sf_record.specs.Input.{IsFront, IsOfBytes, OfInput, ended, input_of, with_front}
 use Rattle.sf_record.specs.Pumping.{Pumping, Stands}
 use Rattle.sf_record.specs.Recorded.{no_file}
@@ -23,7 +24,7 @@ HeaderTaken None scale = ⊤
 HeaderTaken (Some bytes) scale = said_of bytes ≡ behind_header scale (input_of (given_at scale) bytes)
 
 -- A pump is ready to be recorded at so many ticks a second: no sample was read yet.
-pub record Ready {S : Type 0} (contents : Option (List ℕ)) (scale : ℕ) (pump : Pumping S) : Type 0 where
+pub record Ready (contents : Option (List ℕ)) (scale : ℕ) (pump : Pumping) : Type 0 where
   pub given : pump.given ≡ given_at scale
   pub ticks : 1 ≤ scale
   pub rate : scale ≤ 1000000
@@ -39,9 +40,9 @@ pub record Closed (scale : ℕ) (chunks : List Chunk) (begun told : Option (List
   pub samples : report.samples ≡ length (samples_of chunks)
 
 -- what becomes of an open file that is closed with an answer: it is closed, or a fault of the closing is told in its place, a write fault only where this holds
-abbrev pub Closes : {O : Type 0} → (O → Option (List ℕ)) → OpenFile O → Outcome → Option (List ℕ) → Report → Outcome → Type 0 → Type 0
-Closes contents file outcome told report after R =
-    ((after ≡ outcome) × ((begun : Option (List ℕ)) (scale : ℕ) (chunks : List Chunk) → IsEmpty begun → Holds contents begun scale chunks file → Closed scale chunks begun told report))
+abbrev pub Closes : OpenFile → Outcome → Option (List ℕ) → Report → Outcome → Type 0 → Type 0
+Closes file outcome told report after R =
+    ((after ≡ outcome) × ((begun : Option (List ℕ)) (scale : ℕ) (chunks : List Chunk) → IsEmpty begun → Holds begun scale chunks file → Closed scale chunks begun told report))
     ⊎ ((report ≡ no_file) × ((after ≡ WriteFault) × R ⊎ (after ≡ NoMemory)))
 
 -- The closed file of all these samples is in the sink.
