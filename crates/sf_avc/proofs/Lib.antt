@@ -1,0 +1,14 @@
+pub mod Pieces
+pub mod Searching
+pub mod Trimming
+pub mod Walking
+pub mod Storing
+pub mod Tiling
+pub mod UnitsBack
+pub mod Propriety
+pub mod Sets
+pub mod Emulation
+pub mod Taking
+pub mod Golomb
+pub mod RecordSets
+pub mod ConfigBack

@@ -1,0 +1,9 @@
+pub mod Units
+pub mod Stored
+pub mod Tiling
+pub mod UnitsBack
+pub mod Config
+pub mod Bits
+pub mod Sps
+pub mod ConfigBody
+pub mod inner
