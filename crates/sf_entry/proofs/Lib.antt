@@ -1,0 +1,6 @@
+pub mod LengthLemmas
+pub mod EntryLemmas
+pub mod EsdsBack
+pub mod EntriesBack
+pub mod ConfigLength
+pub mod SetupsBack

@@ -1,0 +1,3 @@
+pub mod Narrow
+pub mod Boxes
+pub mod Refused
