@@ -1,5 +1,3 @@
-pub mod Parts
-pub mod Putting
+pub mod Gathering
 pub mod MovieBoxes
-pub mod KeptWhole
-pub mod Saying
+pub mod Performing

@@ -3,13 +3,10 @@ use Rattle.std.proofs.Common.{◌≡◌, ◌≢◌, ℕ, ◌+◌, ◌-◌, ◌<�
 use Rattle.std.proofs.lemmas.List.{length-drop, drop-drop, drop-take}
 use Rattle.std.proofs.lemmas.Bool.Decides.{nat_tests}
 use Rattle.std.proofs.Math.Seq.{take-length}
-use Rattle.sf_box.specs.Boxes.{word32, Piece, head_in, head_of, piece_of, boxes}
+use Rattle.sf_box.specs.Boxes.{word32, Piece, head_in, head_of, piece_of, boxes, joined_with}
 use Rattle.sf_box.specs.declared.types.BoxHead.{BoxHead}
 use Rattle.sf_box.specs.declared.types.BoxFault.{BoxFault}
-use Rattle.sf_box.proofs.Boxes.{boxes_fault}
-use Rattle.sf_box.proofs.Heads.{first_tells}
-use Rattle.sf_box.proofs.Parts.{joined_with}
-use Rattle.sf_meaning.proofs.WholeFile.{box_step, box_end}
+use Rattle.sf_box.proofs.BoxLaws.{box_end, box_step, boxes_fault, first_tells}
 use Rattle.sf_meaning.specs.Steps.{◌>>=◌, ◌>>◌, as_fault, body_at, check, of_kind}
 use Rattle.sf_meaning.specs.Movie.{Step, in_moov, movie, movie_header, movie_in, only_moov, scale_place, start_in, timescale_in, top_boxes, tracks_in, tracks_of}
 use Rattle.sf_meaning.specs.declared.faults.MovieFault.{MovieFault}
@@ -22,12 +19,12 @@ use Rattle.std.specs.Prelude.{nat_le}
 use Rattle.sf_meaning.specs.Form.{moov_form}
 use Rattle.sf_meaning.specs.declared.movie.PlainMovie.{PlainMovie}
 use Rattle.sf_world.specs.Contents.{HasLength, ReadsAt}
-use Rattle.sf_app.specs.Listing.{IsCaused, Reads}
-use Rattle.sf_app.specs.Moovs.{Fits, Holds, Meets, box_at, moov_of}
-use Rattle.sf_app.specs.declared.listing.ListFault.{ListFault}
-use Rattle.sf_app.specs.declared.listing.ListFault.TheVariants.{Refused, ReadFault, WriteFault, NoMemory}
-use Rattle.sf_app.specs.declared.walking.Moovs.{Moovs}
-use Rattle.sf_app.specs.declared.walking.Moovs.TheVariants.{Nothing}
+use Rattle.sf_app.specs.inner.Load.{IsCaused, Reads}
+use Rattle.sf_app.specs.inner.Walk.{Fits, Holds, Meets, box_at, moov_of}
+use Rattle.sf_app.specs.declared.movie.load.LoadFault.{LoadFault}
+use Rattle.sf_app.specs.declared.movie.load.LoadFault.TheVariants.{Refused, ReadFault, NoMemory}
+use Rattle.sf_app.specs.declared.movie.walk.Moovs.{Moovs}
+use Rattle.sf_app.specs.declared.movie.walk.Moovs.TheVariants.{Nothing}
 
 -- told bytes are as many as there are
 pub told_length : (contents : Option (List ℕ)) (size : ℕ) (file : List ℕ) → HasLength contents size → contents ≡ Some file → length file ≡ size
@@ -68,7 +65,7 @@ pub met_on : (file : List ℕ) (at : ℕ) (moovs moovs' : Moovs) (h : BoxHead) �
 met_on file at moovs moovs' h e place with_box m =
     let rest : List ℕ = drop at file in
     let box : piece_of h rest ≡ box_at h file = ap (λ (n : ℕ). piece_of h (drop n file)) (sym place) in
-    let step = box_step at rest h m.front (boxes true 0 file) e m.whole in
+    let step = box_step true at rest h m.front (boxes true 0 file) e m.whole in
     let behind : drop h.size rest ≡ drop (at + h.size) file = drop-drop h.size at file in
     record {
       front = m.front ++ box_at h file ∷ [];
@@ -91,20 +88,16 @@ pub head_ok : (r : Result BoxHead BoxFault) (h : BoxHead) → as_fault (λ (x : 
 head_ok (Ok x) h e = let same : x ≡ h = cc e in ap (λ (y : BoxHead). Ok y) same
 head_ok (Err b) h e = absurd (cc e)
 
-pub met_wrong : (file : List ℕ) (at : ℕ) (moovs : Moovs) (fault : ListFault) → Met file at moovs → at < length file
+pub met_wrong : (file : List ℕ) (at : ℕ) (moovs : Moovs) (fault : LoadFault) → Met file at moovs → at < length file
     → Reads {A = BoxHead} {B = BoxHead} (λ h. h) (Err fault) (as_fault Tiling (head_of true at (drop at file))) → Meets file (Err fault)
 met_wrong file at moovs (Refused f) m lt e = stopped file at moovs f (head_of true at (drop at file)) m (omega (arith, length-drop at file)) refl e
 met_wrong file at moovs ReadFault m lt e = tt
-met_wrong file at moovs WriteFault m lt e = tt
 met_wrong file at moovs NoMemory m lt e = tt
-
-no_bytes : (n : ℕ) → n ≡ 0 → (n == 0) ≡ true
-no_bytes n e = ap (λ (m : ℕ). m == 0) e
 
 pub met_end : (file : List ℕ) (at : ℕ) (moovs : Moovs) → Met file at moovs → length file ≤ at → Meets file (Ok moovs)
 met_end file at moovs m le =
-    let none : (length (drop at file) == 0) ≡ true = no_bytes (length (drop at file)) (omega (arith, length-drop at file)) in
-    (m.front, ap (as_fault (λ (x : BoxFault). Tiling x)) (box_end at (drop at file) m.front (boxes true 0 file) none m.whole), m.holds)
+    let none : length (drop at file) ≡ 0 = omega (arith, length-drop at file) in
+    (m.front, ap (as_fault (λ (x : BoxFault). Tiling x)) (box_end true at (drop at file) m.front (boxes true 0 file) none m.whole), m.holds)
 
 -- the only movie box among those that were met
 pub moov_found : (file : List ℕ) (ps : List Piece) (end : ℕ) (said : Step Piece) → top_boxes file ≡ Ok ps → length file ≡ end
@@ -112,11 +105,10 @@ pub moov_found : (file : List ℕ) (ps : List Piece) (end : ℕ) (said : Step Pi
 unfolding moov_of
 moov_found file ps end said is len e = rw (is, len) e
 
-pub moov_wrong : (file : List ℕ) (fault : ListFault) → Meets file (Err fault) → Reads {A = BoxHead} (λ h. box_at h file) (Err fault) (moov_of file)
+pub moov_wrong : (file : List ℕ) (fault : LoadFault) → Meets file (Err fault) → Reads {A = BoxHead} (λ h. box_at h file) (Err fault) (moov_of file)
 unfolding moov_of
 moov_wrong file (Refused f) e = rw e refl
 moov_wrong file ReadFault e = tt
-moov_wrong file WriteFault e = tt
 moov_wrong file NoMemory e = tt
 
 -- the bytes that were read are the body of the box
@@ -148,36 +140,35 @@ movie_found file body h end said is same len e =
     sym (movie_of_moov file) ∙ ap (λ (r : Step Piece). r >>= (λ moov. movie_in moov.body (body_at moov) (length file))) is
     ∙ ap (λ (b : List ℕ). movie_in b (h.at + h.head) (length file)) (sym same) ∙ ap (movie_in body (h.at + h.head)) len ∙ e
 
-pub movie_wrong : (file : List ℕ) (fault : ListFault) → Reads {A = BoxHead} (λ h. box_at h file) (Err fault) (moov_of file)
+pub movie_wrong : (file : List ℕ) (fault : LoadFault) → Reads {A = BoxHead} (λ h. box_at h file) (Err fault) (moov_of file)
     → Reads {A = PlainMovie} {B = PlainMovie} (λ it. it) (Err fault) (movie file)
 movie_wrong file (Refused f) e =
     sym (movie_of_moov file) ∙ ap (λ (r : Step Piece). r >>= (λ moov. movie_in moov.body (body_at moov) (length file))) e
 movie_wrong file ReadFault e = tt
-movie_wrong file WriteFault e = tt
 movie_wrong file NoMemory e = tt
 
 -- what isn't refused says nothing
-pub not_refused : (file : List ℕ) (fault : ListFault) → ((f : MovieFault) → fault ≢ Refused f)
+pub not_refused : (file : List ℕ) (fault : LoadFault) → ((f : MovieFault) → fault ≢ Refused f)
     → Reads {A = PlainMovie} {B = PlainMovie} (λ it. it) (Err fault) (movie file)
 not_refused file (Refused f) never = absurd (never f refl)
 not_refused file ReadFault never = tt
-not_refused file WriteFault never = tt
 not_refused file NoMemory never = tt
 
 -- a fault that was told is what the file says
-pub fault_told : (file : List ℕ) (fault : MovieFault) (r : ListFault) → (r ≡ NoMemory) ⊎ (r ≡ Refused fault) → (fault ≡ movies.NoMemory → r ≡ NoMemory)
+pub fault_told : (file : List ℕ) (fault : MovieFault) (r : LoadFault) → (r ≡ NoMemory) ⊎ (r ≡ Refused fault) → (fault ≡ movies.NoMemory → r ≡ NoMemory)
     → (fault ≡ movies.NoMemory) ⊎ (movie file ≡ Err fault) → Reads {A = PlainMovie} {B = PlainMovie} (λ it. it) (Err r) (movie file)
 fault_told file fault r is memory said =
-    let Told : ListFault → Type 0 = λ x. Reads {A = PlainMovie} {B = PlainMovie} (λ it. it) (Err x) (movie file) in
+    let Told : LoadFault → Type 0 = λ x. Reads {A = PlainMovie} {B = PlainMovie} (λ it. it) (Err x) (movie file) in
     elim is [
       | inl e ↦ subst Told (sym e) tt
       | inr e ↦ elim said [ inl n ↦ subst Told (sym (memory n)) tt | inr m ↦ subst Told (sym e) m ]
     ]
 
-pub fault_cause : (fault : MovieFault) (r : ListFault) (before after : ℕ) → (r ≡ NoMemory) ⊎ (r ≡ Refused fault) → IsCaused {A = PlainMovie} before after (Err r)
-fault_cause fault r before after is =
-    let Caused : ListFault → Type 0 = λ x. IsCaused {A = PlainMovie} before after (Err x) in
-    elim is [ inl e ↦ subst Caused (sym e) tt | inr e ↦ subst Caused (sym e) tt ]
+pub fault_cause : (fault : MovieFault) (r : LoadFault) (before after : ℕ) → (r ≡ NoMemory) ⊎ (r ≡ Refused fault) → r ≢ Refused movies.NoMemory
+    → IsCaused {A = PlainMovie} before after (Err r)
+fault_cause fault r before after is free =
+    let Caused : LoadFault → Type 0 = λ x. IsCaused {A = PlainMovie} before after (Err x) in
+    elim is [ inl e ↦ subst Caused (sym e) tt | inr e ↦ subst Caused (sym e) (λ none. free (e ∙ ap (λ (f : MovieFault). Refused f) none)) ]
 
 -- a step that succeeded came from steps that did
 bind_ok : {A B E : Type 0} (r : Result A E) (f : A → Result B E) (y : B) → (r >>= f) ≡ Ok y → (x : A) × (r ≡ Ok x) × (f x ≡ Ok y)

@@ -1,18 +1,21 @@
 //! What the program does with its words: `run`.
+//!
+//! A command is a file with four steps: fetch the input that its words name, call the crate that does the work, give the
+//! input back, and tell how it went. `record` makes a file of a coded sample file, and `list` puts the samples of a movie
+//! into the text. Each answer other than `Done` has its cause in the clauses of `run`.
 #![tactic(auto)]
 
-mod lines;
-mod listed;
-mod listing;
-mod loading;
-mod running;
+mod answer_text;
+mod list;
+mod list_text;
+mod movie;
+mod program;
+mod record;
 mod status;
-mod telling;
-mod walking;
 mod words;
 
-pub use listing::{ListFault, list_movie};
-pub use running::run;
+pub use movie::{ListFault, list_movie};
+pub use program::run;
 pub use sf_coded::CodedFault;
 pub use sf_gather::SampleFault;
 pub use sf_meaning::MovieFault;

@@ -1,5 +1,7 @@
+//! How the program ends.
+
 ghost use Rattle.std.specs.Prelude.{◌≡◌};
-ghost use Rattle.sf_app.specs.Codes.{code_of};
+ghost use Rattle.sf_app.specs.Status.{code_of};
 
 use sf_meaning::MovieFault;
 use sf_record::{LimitShown, TrackFault};

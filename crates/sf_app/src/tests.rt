@@ -9,7 +9,9 @@ mod failures;
 mod inputs;
 mod listing;
 mod refusals;
+mod sizes;
 mod tables;
+mod texts;
 mod words;
 
 /// A coded sample file of 103 bytes: its header, three samples of four bytes at 0, 21333 and 42667

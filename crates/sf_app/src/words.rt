@@ -1,5 +1,7 @@
+//! The words of the command line.
+
 ghost use Rattle.std.specs.Prelude.{◌≡◌, map, string_bytes, MatchResult};
-ghost use Rattle.sf_app.specs.Commands.{Asks};
+ghost use Rattle.sf_app.specs.inner.Commands.{Asks};
 ghost use Rattle.sf_app.specs.Words.{asked, one_name};
 
 use super::UsageFault;

@@ -1,12 +1,12 @@
 //! The list of a movie, over sources and texts in memory.
 
-ghost use Rattle.std.specs.Prelude.{◌≡◌, None, length};
+ghost use Rattle.std.specs.Prelude.{◌≡◌, None, length, refl};
 ghost use Rattle.std.proofs.Common.{lit<};
 
 use super::inputs::FILE;
 use super::*;
-use sf_box::BoxFault;
-use sf_meaning::MovieFault;
+use sf_box::{BoxFault, FourCc};
+use sf_meaning::{HeadFault, MovieFault, TableFault};
 use sf_world::{Denied, Failed, Fits, Measure, MemSource, Shelf, Sink, Source};
 use std::test::Fail;
 
@@ -68,10 +68,14 @@ fn listed_by(
     Ok((answer, only_size(&texts)))
 }
 
-// So short a list is put into the text at once.
+// The first line is put by itself, and the rest of so short a list at once.
 #[test]
 fn a_text_that_fails_gains_no_more(rt: HostRuntime) -> Result<(), Fail> {
-    let rows = [(0, Err(ListFault::WriteFault), 0), (1, Ok(()), LINES.len())];
+    let rows = [
+        (0, Err(ListFault::WriteFault), 0),
+        (1, Err(ListFault::WriteFault), 8),
+        (2, Ok(()), LINES.len()),
+    ];
     for (failing, wanted, size) in rows {
         let (answer, gained) = listed_by(rt.alloc(), &FILE, failing)?;
         assert_eq!(rt; answer, wanted, "at {failing}");
@@ -81,8 +85,9 @@ fn a_text_that_fails_gains_no_more(rt: HostRuntime) -> Result<(), Fail> {
 }
 
 // The list of 4000 samples has 8 + 30 bytes in its first two lines, and then lines of 19 bytes for the
-// samples 0 to 9, of 20 to 99, of 21 to 999 and of 22 behind: 86928 bytes in all. What was gathered is put
-// into the text once it has 65536 bytes or more, which is behind the sample 3027: 65544 bytes.
+// samples 0 to 9, of 20 to 99, of 21 to 999 and of 22 after that: 86928 bytes in all. After the first line
+// what was gathered is put into the text once it has 65536 bytes or more, which is after the sample 3027:
+// 65544 bytes with the first line.
 #[test]
 fn a_long_list_is_put_into_the_text_in_parts(rt: HostRuntime) -> Result<(), Fail> {
     let alloc = rt.alloc();
@@ -94,8 +99,9 @@ fn a_long_list_is_put_into_the_text_in_parts(rt: HostRuntime) -> Result<(), Fail
     };
     let rows = [
         (0, Err(ListFault::WriteFault), 0),
-        (1, Err(ListFault::WriteFault), 65_544),
-        (2, Ok(()), 86_928),
+        (1, Err(ListFault::WriteFault), 8),
+        (2, Err(ListFault::WriteFault), 65_544),
+        (3, Ok(()), 86_928),
     ];
     for (failing, wanted, size) in rows {
         let (answer, gained) = listed_by(alloc, file, failing)?;
@@ -163,13 +169,13 @@ fn copy_over(bytes: &[u8], place: u64, at: u64, into: &mut [u8])
 }
 
 impl Source for HoleSource {
-    ghost contents = { λ source. None };
-
-    ghost size = { λ source. source.length };
+    ghost seen = { λ source. record { content = None; size = source.length; faults = 0 } };
 
     ghost whole = { λ source. tt };
 
     ghost bounded = { λ source. lit< tt };
+
+    ghost counted = { λ source. refl };
 
     ghost fitting = { λ source name fits. fits };
 
@@ -274,5 +280,100 @@ fn a_failed_text_ends_the_list(rt: HostRuntime) -> Result<(), Fail> {
     texts.keep(text);
     assert_eq!(rt; status, Status::WriteFault);
     assert_eq!(rt; only_size(&texts), Some(0));
+    Ok(())
+}
+
+/// The recorded file with other bytes at a place.
+fn changed(alloc: Global, at: usize, bytes: &[u8]) -> Result<Vec<u8>, AllocError> {
+    let mut file = FILE.to_vec(alloc)?;
+    for index in 0..bytes.len() {
+        let place = at.saturating_add(index);
+        if place < file.len() {
+            file[place] = bytes[index];
+        }
+    }
+    Ok(file)
+}
+
+// In the file, mvhd stands at 60, mdhd at 276, url at 401, mp4a at 437, stts at 524, stsz at 548, stsc at
+// 568 and stco at 596.
+#[test]
+fn a_changed_movie_is_refused_at_its_box(rt: HostRuntime) -> Result<(), Fail> {
+    let alloc = rt.alloc();
+    let stts = FourCc(*b"stts");
+    let stsc = FourCc(*b"stsc");
+    let rows: [(usize, &[u8], MovieFault); 11] = [
+        (80, &[0; 4], MovieFault::Head(HeadFault::Scale0 { at: 60 })),
+        (
+            296,
+            &[0; 4],
+            MovieFault::Head(HeadFault::Scale0 { at: 276 }),
+        ),
+        (412, &[0], MovieFault::External { at: 437 }),
+        (
+            543,
+            &[2],
+            MovieFault::Table(TableFault::Short {
+                kind: stts,
+                at: 524,
+            }),
+        ),
+        (
+            564,
+            &[255; 4],
+            MovieFault::Table(TableFault::TooMany {
+                at: 548,
+                count: u32::MAX,
+            }),
+        ),
+        (
+            587,
+            &[2],
+            MovieFault::Table(TableFault::NotRising {
+                kind: stsc,
+                at: 568,
+            }),
+        ),
+        (
+            591,
+            &[2],
+            MovieFault::Table(TableFault::Short {
+                kind: stsc,
+                at: 568,
+            }),
+        ),
+        (
+            595,
+            &[2],
+            MovieFault::Table(TableFault::Description { at: 568, index: 2 }),
+        ),
+        (
+            611,
+            &[2],
+            MovieFault::Table(TableFault::Short {
+                kind: FourCc(*b"stco"),
+                at: 596,
+            }),
+        ),
+        (
+            614,
+            &[2, 121],
+            MovieFault::SampleOutside {
+                track: 0,
+                sample: 1,
+            },
+        ),
+        (
+            24,
+            b"\0\0\0\x0cmdat\0\0\0\0\0\0\0\x10moov",
+            MovieFault::TwoMoov { at: 52 },
+        ),
+    ];
+    for (at, bytes, fault) in rows {
+        let file = changed(alloc, at, bytes)?;
+        let ended = run_words(alloc, &["list", "a"], &file)?;
+        assert_eq!(rt; ended.status, Status::MovieRefused(fault), "at {at}");
+        assert_eq!(rt; ended.text.bytes(), b"movie refused\n".as_slice());
+    }
     Ok(())
 }

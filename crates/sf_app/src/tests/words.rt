@@ -1,7 +1,7 @@
 //! Words that no command takes, and the codes and lines of answers.
 
 use super::*;
-use crate::telling::tell_refusal;
+use crate::answer_text::put_answer;
 use std::test::Fail;
 
 const USAGE: &[u8] =
@@ -89,7 +89,10 @@ fn each_limit_has_its_line(rt: HostRuntime) -> Result<(), Fail> {
     ];
     for (limit, line) in rows {
         let mut text = MemText::new(alloc);
-        tell_refusal(alloc, &mut text, &Status::LimitReached(limit));
+        assert_eq!(rt;
+            put_answer(alloc, &mut text, &Status::LimitReached(limit)),
+            Ok(())
+        );
         assert_eq!(rt; text.bytes(), line);
     }
     Ok(())

@@ -1,0 +1,77 @@
+-- What an input that was fetched and given back says of an answer.
+use Rattle.std.proofs.Common.{◌≡◌, ◌≢◌, ℕ, ◌+◌, ◌≤◌, ◌⊎◌, inl, inr, List, [], ◌∷◌, ◌++◌, Option, Result, Ok, Err, refl, ap, sym, subst, ◌∙◌, rules, arith}
+use Rattle.sf_meaning.specs.Movie.{movie}
+use Rattle.sf_meaning.specs.declared.movie.PlainMovie.{PlainMovie}
+use Rattle.sf_record.specs.Recorded.{KeptToLimit, Recorded}
+use Rattle.sf_record.specs.Said.{OfSaid, Said}
+use Rattle.sf_record.specs.declared.limits.LimitShown.{LimitShown}
+use Rattle.sf_record.specs.declared.outcome.Outcome.{Outcome}
+use Rattle.sf_record.specs.declared.outcome.Outcome.TheVariants as outcomes
+use Rattle.sf_record.specs.declared.outcome.Report.{Report}
+use Rattle.sf_world.specs.Counts.{Rose, both}
+use Rattle.sf_world.specs.Views.{Gave, GivenBack, InputsView, IsGiven, KeptAtMost, ShelfView, SinkView, SourceView, TakesBack}
+use Rattle.sf_world.specs.declared.failures.Denied.{Denied}
+use Rattle.sf_app.specs.AnswerText.{Puts}
+use Rattle.sf_app.specs.ListEnds.{Reads}
+use Rattle.sf_app.specs.Outside.{Faulty, OfTold}
+use Rattle.sf_app.specs.RecordEnds.{Performs, answered, file_name}
+use Rattle.sf_app.specs.inner.Load.{IsCaused, read_status, Reads as Loads}
+use Rattle.sf_app.specs.declared.movie.load.LoadFault.{LoadFault}
+use Rattle.sf_app.specs.declared.movie.load.LoadFault.TheVariants.{Refused, ReadFault, NoMemory}
+
+-- Inputs gave a source, which was given back with this view.
+pub record Visit (name : List ℕ) (source end : SourceView) (before middle after : InputsView) : Type 0 where
+  pub given : IsGiven (before.holds name) source
+  pub gave : Gave name before middle
+  pub kept : middle.faults ≡ before.faults
+  pub takes : TakesBack end.faults middle after
+
+abbrev given_back : (name : List ℕ) (source end : SourceView) (i m i' : InputsView) → Visit name source end i m i' → GivenBack name i i'
+given_back name source end i m i' v = record {
+  asked = v.takes.asked ∙ v.gave.asked;
+  faults = end.faults;
+  returned = v.takes.returned ∙ ap (λ (l : List ℕ). l ++ end.faults ∷ []) v.gave.returned;
+}
+
+faulty : (name : List ℕ) (source end : SourceView) (i m i' : InputsView) → Visit name source end i m i' → Rose source.faults end.faults → Faulty name i i'
+faulty name source end i m i' v rose = record {
+  back = given_back name source end i m i' v;
+  some = omega (arith, rose, v.given.faults);
+  failed = omega (arith, rose, v.given.faults, v.kept, v.takes.faults);
+}
+
+-- how an input was recorded, by the outcome
+pub performs_by : (name : List ℕ) (outcome : Outcome) (report : Report) (source end : SourceView) (i m i' : InputsView) (s s' : ShelfView) → Visit name source end i m i'
+    → OfSaid source.content (λ said. Recorded said outcome report file_name s s')
+    → ((limit : LimitShown) → outcome ≡ outcomes.Limit limit → ¬ Rose source.faults end.faults → OfSaid source.content (λ said. KeptToLimit said limit report file_name s s'))
+    → KeptAtMost file_name s s' → (outcome ≡ outcomes.WriteFault → Rose s.faults s'.faults) → (outcome ≡ outcomes.ReadFault → Rose source.faults end.faults)
+    → Performs name (answered outcome report) i i' s s'
+performs_by name outcomes.Done report source end i m i' s s' v recorded limit kept write read =
+    (subst (λ (c : Option (List ℕ)). OfSaid c (λ said. Recorded said outcomes.Done report file_name s s')) v.given.content recorded, given_back name source end i m i' v)
+performs_by name outcomes.WriteFault report source end i m i' s s' v recorded limit kept write read = (write refl, kept, given_back name source end i m i' v)
+performs_by name (outcomes.Limit shown) report source end i m i' s s' v recorded limit kept write read = record {
+  recorded = (report, subst (λ (c : Option (List ℕ)). OfSaid c (λ said. Recorded said (outcomes.Limit shown) report file_name s s')) v.given.content recorded);
+  back = given_back name source end i m i' v;
+  met = λ none. (
+    report,
+    subst (λ (c : Option (List ℕ)). OfSaid c (λ said. KeptToLimit said shown report file_name s s')) v.given.content
+        (limit shown refl (λ rose. omega (arith, rose, none, v.given.faults))),
+  );
+}
+performs_by name (outcomes.Refused fault) report source end i m i' s s' v recorded limit kept write read =
+    (refl, (report, subst (λ (c : Option (List ℕ)). OfSaid c (λ said. Recorded said (outcomes.Refused fault) report file_name s s')) v.given.content recorded), given_back name source end i m i' v)
+performs_by name outcomes.ReadFault report source end i m i' s s' v recorded limit kept write read =
+    (refl, (report, subst (λ (c : Option (List ℕ)). OfSaid c (λ said. Recorded said outcomes.ReadFault report file_name s s')) v.given.content recorded), faulty name source end i m i' v (read refl))
+performs_by name outcomes.NoMemory report source end i m i' s s' v recorded limit kept write read = (kept, inr (given_back name source end i m i' v))
+
+-- why a movie wasn't read
+pub reads_by : (name : List ℕ) (fault : LoadFault) (source end : SourceView) (i m i' : InputsView) → Visit name source end i m i'
+    → OfTold source.content (λ file. Loads {A = PlainMovie} {B = PlainMovie} (λ it. it) (Err fault) (movie file)) → IsCaused {A = PlainMovie} source.faults end.faults (Err fault)
+    → Reads name (Err (read_status fault)) i i'
+reads_by name (Refused fault) source end i m i' v said cause = (record { so = λ file told. said file (v.given.content ∙ told); free = cause }, given_back name source end i m i' v)
+reads_by name ReadFault source end i m i' v said cause = (refl, faulty name source end i m i' v cause)
+reads_by name NoMemory source end i m i' v said cause = inr (given_back name source end i m i' v)
+
+-- the same lines under another name
+pub puts_same : (lines lines' : List ℕ) (r : Result (Unit {0}) Denied) (before after : SinkView) → lines' ≡ lines → Puts lines r before after → Puts lines' r before after
+puts_same lines lines' r before after e p = subst (λ (l : List ℕ). Puts l r before after) (sym e) p

@@ -1,0 +1,42 @@
+-- What the text says of an answer. Each line ends with a line feed; numbers are decimal.
+use Rattle.std.specs.Prelude.{◌≡◌, ℕ, List, [], ◌++◌, codes, Result, Ok, Err}
+use Rattle.std.specs.Fmt.{decimal}
+use Rattle.sf_world.specs.Views.{FailsWithin, Gains, SinkView}
+use Rattle.sf_world.specs.declared.failures.Denied.{Denied}
+use Rattle.sf_world.specs.declared.failures.Denied.TheVariants.{Failed, NoMemory as NoRoom}
+use Rattle.sf_app.specs.declared.status.Status.{Status}
+use Rattle.sf_app.specs.declared.status.Status.TheVariants.{Done, Usage, OpenFault, ReadFault, WriteFault, InputRefused, MovieRefused, LimitReached, NoMemory}
+use Rattle.sf_record.specs.declared.limits.LimitShown.{LimitShown}
+use Rattle.sf_record.specs.declared.limits.LimitShown.TheVariants.{Movie, Count}
+
+-- the lines of a recording in one file of so many bytes with so many samples
+abbrev pub done_lines : ℕ → ℕ → List ℕ
+done_lines size samples = codes "file 1 " ++ (decimal size ++ (codes "\ntrack 0 " ++ (decimal samples ++ codes "\ndone\n")))
+
+-- four numbers after their word, and the end of the line
+abbrev pub limit_numbers : ℕ → ℕ → ℕ → ℕ → List ℕ
+limit_numbers track sample would_be max =
+    decimal track ++ (codes " " ++ (decimal sample ++ (codes " " ++ (decimal would_be ++ (codes " " ++ (decimal max ++ codes "\n"))))))
+
+-- the line of a limit that was reached
+abbrev pub limit_line : LimitShown → List ℕ
+limit_line (Movie track sample would_be max) = codes "limit reached: movie " ++ limit_numbers track sample would_be max
+limit_line (Count track sample would_be max) = codes "limit reached: count " ++ limit_numbers track sample would_be max
+
+-- the line of an answer other than Done
+abbrev pub line_of : Status → List ℕ
+line_of Done = []
+line_of (Usage fault) = codes "usage: record INPUT.. | extract MOVIE PLAN.. | list MOVIE | make COUNT TRACKS\n"
+line_of (OpenFault input) = codes "cannot open input " ++ (decimal input ++ codes "\n")
+line_of (ReadFault input) = codes "cannot read input " ++ (decimal input ++ codes "\n")
+line_of WriteFault = codes "cannot write\n"
+line_of (InputRefused track fault) = codes "input refused: track " ++ (decimal track ++ (codes " at " ++ (decimal fault.place ++ codes "\n")))
+line_of (MovieRefused fault) = codes "movie refused\n"
+line_of (LimitReached limit) = limit_line limit
+line_of NoMemory = codes "no memory\n"
+
+-- what becomes of a text into which lines are put, by the answer of the call
+abbrev pub Puts : List ℕ → Result (Unit {0}) Denied → SinkView → SinkView → Type 0
+Puts lines (Ok done) before after = Gains lines before after
+Puts lines (Err Failed) before after = FailsWithin lines before after
+Puts lines (Err NoRoom) before after = after ≡ before

@@ -1,0 +1,5 @@
+-- What only ties the code to the definitions.
+pub mod Commands
+pub mod Gathered
+pub mod Load
+pub mod Walk

@@ -1,0 +1,50 @@
+//! Recordings and lists of many samples, chunks and boxes: memory suffices where it is there.
+
+use super::inputs::FILE;
+use super::*;
+use std::test::Fail;
+
+// A sample's line begins with its track, and its number counts from 0.
+fn samples_listed(text: &[u8]) -> usize {
+    text.iter().filter(|byte| **byte == b'\n').count()
+}
+
+// 150,000 samples at one time, and 1,050 samples in a chunk each.
+#[test]
+fn many_samples_and_chunks_are_recorded_and_listed(rt: HostRuntime) -> Result<(), Fail> {
+    let alloc = rt.alloc();
+    for (count, step, size) in [(150_000usize, 0u64, 1u32), (1_050, 1_010_000, 3)] {
+        let mut samples = Vec::new(alloc);
+        for number in 0..count {
+            let us = (number as u64).saturating_mul(step);
+            samples.push((us, size))?;
+        }
+        let input = input_of(alloc, &samples)?;
+        let ended = run_words(alloc, &["record", "a"], &input)?;
+        assert_eq!(rt; ended.status, Status::Done);
+        let Some(file) = ended.shelf.file(0) else {
+            return Err(Fail::from(ended.status));
+        };
+        let listed = run_words(alloc, &["list", "a"], file)?;
+        assert_eq!(rt; listed.status, Status::Done);
+        assert_eq!(rt;
+            samples_listed(listed.text.bytes()),
+            count.saturating_add(2)
+        );
+    }
+    Ok(())
+}
+
+// A hundred boxes that are passed over.
+#[test]
+fn many_boxes_are_passed_over(rt: HostRuntime) -> Result<(), Fail> {
+    let alloc = rt.alloc();
+    let mut file = FILE.to_vec(alloc)?;
+    for _ in 0..100 {
+        file.extend_from_slice(b"\0\0\0\x0cfreefree")?;
+    }
+    let ended = run_words(alloc, &["list", "a"], &file)?;
+    assert_eq!(rt; ended.status, Status::Done);
+    assert_eq!(rt; samples_listed(ended.text.bytes()), 5);
+    Ok(())
+}
