@@ -4,12 +4,15 @@
 //! files hold, and count each error of the system as a fault.
 #![tactic(auto)]
 
-mod files;
-mod folder;
+mod file_inputs;
+mod folder_shelf;
+mod opened_files;
 mod std_text;
+mod whole_writes;
 
-use files::FileInputs;
-use folder::FolderShelf;
+use file_inputs::FileInputs;
+use folder_shelf::FolderShelf;
+use opened_files::OpenedFiles;
 use sf_app::{Status, run};
 use std::alloc::{AllocError, Global};
 use std::env;
@@ -37,8 +40,9 @@ fn main(rt: HostRuntime) -> ExitCode {
     let Ok(words) = words(alloc, &rt) else {
         return ExitCode::from(Status::NoMemory.code());
     };
-    let mut inputs = FileInputs::new(alloc, &rt);
-    let mut shelf = FolderShelf::new(alloc, &rt);
+    let opened = OpenedFiles::new(alloc);
+    let mut inputs = FileInputs::new(alloc, &rt, &opened);
+    let mut shelf = FolderShelf::new(alloc, &rt, &opened);
     let mut text = StdText::new(&rt);
     ExitCode::from(run(alloc, &words, &mut inputs, &mut shelf, &mut text).code())
 }

@@ -1,8 +1,10 @@
+//! Standard output as a text.
+
 ghost use Rattle.std.specs.Prelude.{◌≡◌, ◌+◌, ◌^◌, ◌<◌, ◌≤◌, length, None};
 
+use super::whole_writes::write;
 use sf_world::{Denied, Failed, Sink};
 use std::io;
-use std::io::Write;
 
 /// Standard output as a text. It can't be patched.
 #[derive(Drop)]
@@ -27,27 +29,8 @@ impl<'a> StdText<'a> {
     }
 }
 
-// Writes to standard output, and says how many bytes were written when all were or a write failed.
-fn print(rt: &HostRuntime, bytes: &[u8]) -> usize
-    ensures { result ≤ length bytes.now }
-{
-    let mut done = 0;
-    while done < bytes.len() {
-        match io::writer(rt).write(&bytes[done..]) {
-            Ok(0) => return done,
-            Ok(count) => done += count,
-            Err(_) => return done,
-        }
-    }
-    done
-}
-
 impl Sink for StdText<'_> {
-    ghost contents = { λ text. None };
-
-    ghost size = { λ text. text.length };
-
-    ghost faults = { λ text. text.faults };
+    ghost seen = { λ text. record { content = None; size = text.length; faults = text.faults } };
 
     ghost whole = { λ text. tt };
 
@@ -56,7 +39,11 @@ impl Sink for StdText<'_> {
     fn append(&mut self, bytes: &[u8]) -> Result<(), Denied> {
         // A text that would be longer than a u64 counts takes nothing.
         let fits = self.length.checked_add(bytes.len() as u64).is_some();
-        let done = if fits { print(self.rt, bytes) } else { 0 };
+        let done = if fits {
+            write(&mut io::writer(self.rt), bytes)
+        } else {
+            0
+        };
         self.length += done as u64;
         if done == bytes.len() {
             return Ok(());

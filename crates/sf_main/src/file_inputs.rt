@@ -1,14 +1,18 @@
-ghost use Rattle.std.specs.Prelude.{◌≡◌, ◌+◌, ◌^◌, ◌<◌, ◌≤◌, [], length, None, IfOk};
-ghost use Rattle.sf_world.specs.Room.{room_for};
+//! The files of the system as inputs.
 
+ghost use Rattle.std.specs.Prelude.{◌≡◌, ◌+◌, ◌^◌, ◌<◌, ◌≤◌, [], None, IfOk, refl};
+ghost use Rattle.sf_world.specs.inner.Room.{room_for};
+
+use super::opened_files::OpenedFiles;
 use sf_list::Text;
 use sf_world::{Denied, Failed, Fits, Inputs, Measure, Source};
 use std::alloc::Global;
-use std::fs::File;
-use std::io;
+use std::fs::{File, Metadata};
+use std::io::ErrorKind;
 use std::os::unix::fs::FileExt;
+use std::{fs, io};
 
-/// An open file as a source. Its length is the one that it had when it was opened.
+/// An open regular file as a source. Its length is the one that it had when it was opened.
 #[derive(Drop)]
 pub struct FileSource {
     file: File,
@@ -25,29 +29,14 @@ impl Measure for FileSource {
     ghost measure = { λ source. source.faults };
 }
 
-// Reads the whole part from the place on.
-fn fill(file: &File, at: u64, into: &mut [u8]) -> Result<(), Failed>
-    requires { at + length into.old < 2 ^ 64 }
-{
-    let mut done = 0;
-    while done < into.len() {
-        match file.read_at(&mut into[done..], at + done as u64) {
-            Ok(0) => return Err(Failed),
-            Ok(count) => done += count,
-            Err(_) => return Err(Failed),
-        }
-    }
-    Ok(())
-}
-
 impl Source for FileSource {
-    ghost contents = { λ source. None };
-
-    ghost size = { λ source. source.length };
+    ghost seen = { λ source. record { content = None; size = source.length; faults = source.faults } };
 
     ghost whole = { λ source. tt };
 
     ghost bounded = { λ source. source.counted };
+
+    ghost counted = { λ source. refl };
 
     ghost fitting = { λ source name fits. fits };
 
@@ -60,7 +49,7 @@ impl Source for FileSource {
     fn read_at(&mut self, at: u64, into: &mut [u8]) -> Result<usize, Failed> {
         let left = self.length.saturating_sub(at);
         let count = left.min(into.len() as u64) as usize;
-        if fill(&self.file, at, &mut into[..count]).is_err() {
+        if self.file.read_exact_at(&mut into[..count], at).is_err() {
             self.faults = self.faults.saturating_add(1);
             return Err(Failed);
         }
@@ -68,11 +57,13 @@ impl Source for FileSource {
     }
 }
 
-/// The files of the system as inputs, by their paths.
+/// The files of the system as inputs, by their paths. What isn't a regular file, as a pipe or a
+/// device, has no length and is no input.
 #[derive(Drop)]
 pub struct FileInputs<'a> {
     alloc: Global,
     rt: &'a HostRuntime,
+    opened: &'a OpenedFiles,
     misses: u64,
     faults: u64,
     asked: Vec<(Text, bool)>,
@@ -82,8 +73,8 @@ pub struct FileInputs<'a> {
 }
 
 impl<'a> FileInputs<'a> {
-    /// No file was asked for yet.
-    pub fn new(alloc: Global, rt: &'a HostRuntime) -> FileInputs<'a>
+    /// No file was asked for yet. Each file that is opened is put among the opened ones.
+    pub fn new(alloc: Global, rt: &'a HostRuntime, opened: &'a OpenedFiles) -> FileInputs<'a>
         ensures misses { result.misses ≡ 0 }
         ensures faults { result.faults ≡ 0 }
         ensures asked { result.asked.items ≡ [] }
@@ -92,6 +83,7 @@ impl<'a> FileInputs<'a> {
         FileInputs {
             alloc,
             rt,
+            opened,
             misses: 0,
             faults: 0,
             asked: Vec::new(alloc),
@@ -100,14 +92,34 @@ impl<'a> FileInputs<'a> {
     }
 }
 
-fn open(rt: &HostRuntime, name: &str) -> io::Result<FileSource>
+fn require_regular(file: &Metadata) -> io::Result<()> {
+    if file.is_file() {
+        Ok(())
+    } else {
+        Err(io::Error::from(ErrorKind::InvalidInput))
+    }
+}
+
+// Opens a regular file. What a name stands for is looked at before it is opened too, since a pipe
+// without a writer is opened only once it has one.
+fn open_regular(rt: &HostRuntime, name: &str) -> io::Result<(File, Metadata)> {
+    require_regular(&fs::metadata(rt, name)?)?;
+    let file = File::open(rt, name)?;
+    let about = file.metadata()?;
+    require_regular(&about)?;
+    Ok((file, about))
+}
+
+fn open(rt: &HostRuntime, opened: &OpenedFiles, name: &str) -> Result<FileSource, Denied>
     ensures { IfOk result (λ source. source.faults ≡ 0) }
 {
-    let file = File::open(rt, name)?;
-    let length = file.metadata()?.len();
+    let Ok((file, about)) = open_regular(rt, name) else {
+        return Err(Denied::Failed);
+    };
+    opened.add(&about)?;
     Ok(FileSource {
         file,
-        length,
+        length: about.len(),
         faults: 0,
     })
 }
@@ -115,25 +127,23 @@ fn open(rt: &HostRuntime, name: &str) -> io::Result<FileSource>
 impl Inputs for FileInputs<'_> {
     type Src = FileSource;
 
-    ghost holds = { λ inputs name. None };
-
-    ghost spare = { λ inputs. room_for inputs.returned };
-
-    ghost misses = { λ inputs. inputs.misses };
-
-    ghost faults = { λ inputs. inputs.faults };
-
-    ghost asked = { λ inputs. inputs.asked.items };
-
-    ghost returned = { λ inputs. inputs.returned.items };
+    ghost seen = { λ inputs. record {
+      holds = λ name. None;
+      asked = inputs.asked.items;
+      returned = inputs.returned.items;
+      faults = inputs.faults;
+      misses = inputs.misses;
+      spare = room_for inputs.returned;
+    } };
 
     ghost bounded = { λ inputs. (inputs.missed, inputs.counted) };
 
     fn fetch(&mut self, name: &str) -> Result<FileSource, Denied> {
         let copy = Text::from_str(self.alloc, name)?;
         self.asked.reserve(1)?;
-        match open(self.rt, name) {
-            Err(_) => {
+        match open(self.rt, self.opened, name) {
+            Err(Denied::NoMemory) => Err(Denied::NoMemory),
+            Err(Denied::Failed) => {
                 self.asked.push_reserved((copy, false));
                 self.misses = self.misses.saturating_add(1);
                 Err(Denied::Failed)

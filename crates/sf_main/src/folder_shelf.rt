@@ -1,10 +1,16 @@
+//! The current folder as a shelf, and its files as sinks.
+
 ghost use Rattle.std.specs.Prelude.{◌≡◌, ◌+◌, ◌^◌, ◌<◌, ◌≤◌, [], length, None};
 
+use super::opened_files::OpenedFiles;
+use super::whole_writes::write_at;
 use sf_list::Text;
 use sf_world::{Denied, Failed, Shelf, Sink};
 use std::alloc::Global;
-use std::fs::File;
-use std::os::unix::fs::FileExt;
+use std::fs::{File, OpenOptions};
+use std::io::ErrorKind;
+use std::os::unix::fs::FileTypeExt;
+use std::{fs, io};
 
 /// An open file as a sink. Each append is one write, unless the system takes a part alone.
 #[derive(Drop)]
@@ -15,28 +21,8 @@ pub struct FileSink {
     ghost counted: { faults < 2 ^ 64 },
 }
 
-// Writes at the place, and says how many bytes were written when all were or a write failed.
-fn put(file: &File, at: u64, bytes: &[u8]) -> usize
-    requires { at + length bytes.now < 2 ^ 64 }
-    ensures { result ≤ length bytes.now }
-{
-    let mut done = 0;
-    while done < bytes.len() {
-        match file.write_at(&bytes[done..], at + done as u64) {
-            Ok(0) => return done,
-            Ok(count) => done += count,
-            Err(_) => return done,
-        }
-    }
-    done
-}
-
 impl Sink for FileSink {
-    ghost contents = { λ sink. None };
-
-    ghost size = { λ sink. sink.length };
-
-    ghost faults = { λ sink. sink.faults };
+    ghost seen = { λ sink. record { content = None; size = sink.length; faults = sink.faults } };
 
     ghost whole = { λ sink. tt };
 
@@ -46,7 +32,7 @@ impl Sink for FileSink {
         // A file that would be longer than a u64 counts takes nothing.
         let fits = self.length.checked_add(bytes.len() as u64).is_some();
         let done = if fits {
-            put(&self.file, self.length, bytes)
+            write_at(&self.file, self.length, bytes)
         } else {
             0
         };
@@ -61,7 +47,7 @@ impl Sink for FileSink {
     fn patch(&mut self, at: u64, bytes: &[u8]) -> Result<(), Failed> {
         // The range ends at or before the length, which is a u64.
         let _length = self.length;
-        if put(&self.file, at, bytes) == bytes.len() {
+        if write_at(&self.file, at, bytes) == bytes.len() {
             return Ok(());
         }
         self.faults = self.faults.saturating_add(1);
@@ -69,11 +55,13 @@ impl Sink for FileSink {
     }
 }
 
-/// The current folder as a shelf. A sink is the file of its name, from its making on.
+/// The current folder as a shelf. A sink is the file of its name, from its making on. No sink is
+/// made of a file that was opened as an input.
 #[derive(Drop)]
 pub struct FolderShelf<'a> {
     alloc: Global,
     rt: &'a HostRuntime,
+    inputs: &'a OpenedFiles,
     names: Vec<Text>,
     faults: u64,
     ghost counted: { faults < 2 ^ 64 },
@@ -81,35 +69,57 @@ pub struct FolderShelf<'a> {
 
 impl<'a> FolderShelf<'a> {
     /// No file was made yet.
-    pub fn new(alloc: Global, rt: &'a HostRuntime) -> FolderShelf<'a>
+    pub fn new(alloc: Global, rt: &'a HostRuntime, inputs: &'a OpenedFiles) -> FolderShelf<'a>
         ensures names { result.names.items ≡ [] }
         ensures faults { result.faults ≡ 0 }
     {
         FolderShelf {
             alloc,
             rt,
+            inputs,
             names: Vec::new(alloc),
             faults: 0,
         }
     }
 }
 
+// Whether a name stands for a pipe, which can't be written at places, and is opened only once it
+// has a reader.
+fn is_pipe(rt: &HostRuntime, name: &str) -> bool {
+    match fs::metadata(rt, name) {
+        Ok(about) => about.file_type().is_fifo(),
+        Err(_) => false,
+    }
+}
+
+// Makes the file of a name, or empties the one that is there, unless that is an input.
+fn make_file(rt: &HostRuntime, inputs: &OpenedFiles, name: &str) -> io::Result<File> {
+    if is_pipe(rt, name) {
+        return Err(io::Error::from(ErrorKind::InvalidInput));
+    }
+    let file = OpenOptions::new().write(true).create(true).open(rt, name)?;
+    let about = file.metadata()?;
+    if inputs.has(&about) {
+        return Err(io::Error::from(ErrorKind::AlreadyExists));
+    }
+    if about.is_file() {
+        file.set_len(0)?;
+    }
+    Ok(file)
+}
+
 impl Shelf for FolderShelf<'_> {
     type Out = FileSink;
 
-    ghost names = { λ shelf. shelf.names.items };
-
-    ghost files = { λ shelf. None };
-
-    ghost faults = { λ shelf. shelf.faults };
+    ghost seen = { λ shelf. record { names = shelf.names.items; files = None; faults = shelf.faults } };
 
     ghost bounded = { λ shelf. shelf.counted };
 
-    /// Makes or empties the file of the name.
+    /// Makes or empties the file of the name. It fails where that file is an input, and leaves it whole.
     fn create(&mut self, name: &str) -> Result<FileSink, Denied> {
         let copy = Text::from_str(self.alloc, name)?;
         self.names.reserve(1)?;
-        match File::create(self.rt, name) {
+        match make_file(self.rt, self.inputs, name) {
             Err(_) => {
                 self.faults = self.faults.saturating_add(1);
                 Err(Denied::Failed)

@@ -1,9 +1,0 @@
--- No more bytes were written than there are; those that are left fall.
-use Rattle.std.proofs.Common.{length, ◌-◌, ◌≤◌}
-use Rattle.sf_main.proofs.std_text.print.Given as goal
-
-abbrev pub invariant-loop-done : goal.invariant-loop-done
-invariant-loop-done l = l.done ≤ length l.bytes
-
-abbrev pub decreases-loop-done : goal.decreases-loop-done
-decreases-loop-done l = length l.bytes - l.done
