@@ -1,9 +1,12 @@
-"""Writes coded sample files of AAC sound at 48000 Hz with two channels."""
+"""Writes coded sample files of AAC sound at 48000 Hz with two channels, and reads AAC in ADTS frames."""
 
 import struct
 
 # AudioSpecificConfig (ISO/IEC 14496-3, 1.6.2.1): AAC-LC, 48000 Hz, two channels.
 CONFIGURATION = b"\x11\x90"
+RATE = 48_000
+# How many sound samples of each channel a packet holds.
+PACKET = 1024
 
 
 def write_aac(path, samples):
@@ -15,3 +18,24 @@ def write_aac(path, samples):
             file.write(struct.pack(">BBQQI", 1, 1, time, time, len(payload)))
             file.write(payload)
         file.write(b"\0")
+
+
+def microseconds(packet):
+    """When a packet begins, to the nearest microsecond."""
+    return (packet * PACKET * 1_000_000 + RATE // 2) // RATE
+
+
+def payloads(adts):
+    """The payloads of ADTS frames (ISO/IEC 14496-3, 1.A.3.2), each of one block of that sound."""
+    at = 0
+    while at < len(adts):
+        head = int.from_bytes(adts[at : at + 7], "big")
+        if len(adts) - at < 7 or head >> 44 != 0xFFF or head & 3 != 0:
+            raise ValueError(f"no ADTS frame of one block at byte {at}")
+        # AAC-LC, the index of 48000 Hz, and two channels.
+        if (head >> 38 & 3, head >> 34 & 15, head >> 30 & 7) != (1, 3, 2):
+            raise ValueError(f"the frame at byte {at} is no AAC-LC at 48000 Hz with two channels")
+        length = head >> 13 & 0x1FFF
+        has_checksum = head >> 40 & 1 == 0
+        yield adts[at + (9 if has_checksum else 7) : at + length]
+        at += length
