@@ -1,4 +1,6 @@
 pub mod ContentsLemmas
 pub mod FilesLemmas
+pub mod Filling
 pub mod GrownLemmas
 pub mod KeptLemmas
+pub mod LaidLemmas

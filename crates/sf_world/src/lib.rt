@@ -9,6 +9,7 @@
 mod calls;
 mod copying;
 mod failures;
+mod hole_source;
 mod inputs;
 mod kept;
 mod laws;
@@ -22,6 +23,7 @@ mod source;
 mod sure;
 
 pub use failures::{Denied, Failed, NoMemory};
+pub use hole_source::HoleSource;
 pub use inputs::Inputs;
 pub use laws::{contents_grow, kept_is_a_file, parts_grow};
 pub use mem_inputs::MemInputs;

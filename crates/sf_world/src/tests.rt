@@ -1,3 +1,5 @@
+ghost use Rattle.std.specs.Prelude.{◌≡◌, length, IfOk};
+
 use super::*;
 use sf_list::{Bytes, Text};
 use std::alloc::{AllocError, Global};
@@ -10,7 +12,9 @@ fn read<S: Source>(source: &mut S, at: u64) -> (Result<usize, Failed>, [u8; 2]) 
     (count, into)
 }
 
-fn abc(alloc: Global) -> Result<Bytes, AllocError> {
+fn abc(alloc: Global) -> Result<Bytes, AllocError>
+    ensures { IfOk result (λ b. length b ≡ 3) }
+{
     Bytes::from_slice(alloc, b"abc")
 }
 
@@ -47,6 +51,33 @@ fn a_source_without_failing_reads_never_fails(rt: HostRuntime) -> Result<(), Fai
         assert_eq!(rt; read(&mut sure, at), (Ok(count), bytes), "at {at}");
     }
     assert_eq!(rt; named.count(), 0);
+    Ok(())
+}
+
+// Of 5 GiB the bytes "abc" stand at 2 and "xyz" at the end; the later of two pieces is seen.
+#[test]
+fn a_hole_is_zeros_but_for_its_pieces(rt: HostRuntime) -> Result<(), Fail> {
+    let alloc = rt.alloc();
+    let mut pieces = Vec::new(alloc);
+    pieces.push((2, abc(alloc)?))?;
+    pieces.push((5_368_709_117, Bytes::from_slice(alloc, b"xyz")?))?;
+    pieces.push((3, Bytes::from_slice(alloc, b"B")?))?;
+    let mut source = HoleSource::new(alloc, 5_368_709_120, pieces);
+    assert_eq!(rt; source.length(), 5_368_709_120);
+    let answers = [
+        (0, 2, [0, 0]),
+        (1, 2, *b"\0a"),
+        (3, 2, *b"Bc"),
+        (4, 2, *b"c\0"),
+        (4_294_967_296, 2, [0, 0]),
+        (5_368_709_116, 2, *b"\0x"),
+        (5_368_709_119, 1, *b"z\0"),
+        (5_368_709_120, 0, [0, 0]),
+        (u64::MAX, 0, [0, 0]),
+    ];
+    for (at, count, bytes) in answers {
+        assert_eq!(rt; read(&mut source, at), (Ok(count), bytes), "at {at}");
+    }
     Ok(())
 }
 
