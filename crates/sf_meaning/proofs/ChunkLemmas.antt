@@ -12,14 +12,13 @@ use Rattle.sf_tick.specs.declared.types.Chunk.{Chunk}
 use Rattle.sf_meaning.specs.Joined.{Held, held_in_file, later}
 use Rattle.sf_meaning.specs.Groups.{Group, group_of, cut}
 use Rattle.sf_meaning.specs.Written.{samples_at, listed, held_since, groups_from}
-use Rattle.sf_meaning.specs.Movie.{held_in}
+use Rattle.sf_meaning.specs.Tracks.{held_in}
 use Rattle.sf_meaning.specs.Stbl.{Timed, timed_of, ticks_of, places_in_rows, counts_in_rows, duration_in_rows}
 use Rattle.sf_meaning.specs.Layout.{samples_of, stored_bytes, decodes_of, held_as, timed, rows_from, rows_of, first_dts}
-use Rattle.sf_meaning.specs.Writable.{IsWritable, PacedFrom, Writable}
+use Rattle.sf_meaning.specs.Writable.{IsWritable, PacedFrom, Sized, Tellable, Writable}
 use Rattle.sf_meaning.specs.declared.movie.PlainSample.{PlainSample}
 use Rattle.sf_meaning.proofs.ListLemmas.{all_front, all_behind}
 use Rattle.sf_meaning.proofs.TableLemmas.{Wide}
-use Rattle.sf_meaning.proofs.TablesRead.{Sized, Tellable}
 
 stored-append : (ss ts : List Stored) → stored_bytes (ss ++ ts) ≡ stored_bytes ss ++ stored_bytes ts
 stored-append ss ts = flat_map-append (λ (s : Stored). s.bytes) ss ts
@@ -71,7 +70,7 @@ tellable_of scale entry chunks w =
       places = places_wide 40 chunks w.payload;
     }
 
-chunk_held : (bytes track base place : ℕ) (ss : List Stored) (rest : List PlainSample) → place + length (stored_bytes ss) ≤ bytes → AllByRecursion IsWritable ss
+pub chunk_held : (bytes track base place : ℕ) (ss : List Stored) (rest : List PlainSample) → place + length (stored_bytes ss) ≤ bytes → AllByRecursion IsWritable ss
     → ((j : ℕ) → held_in bytes track j rest ≡ Ok tt) → (i : ℕ) → held_in bytes track i (samples_at base place (map timed ss) ++ rest) ≡ Ok tt
 chunk_held bytes track base place [] rest le all more i = more i
 chunk_held bytes track base place (s ∷ ss) rest le all more i =
@@ -104,7 +103,7 @@ chunk_behind file at c cs rest e =
     let n : ℕ = length (stored_bytes c.samples) in
     sym (drop-drop n at file) ∙ ap (drop n) (chunk_front file at c cs rest e) ∙ drop_at (stored_bytes c.samples) (stored_bytes (samples_of cs) ++ rest) n refl
 
-chunk_shown : (file : List ℕ) (base place : ℕ) (ss : List Stored) (rest : List ℕ) → drop place file ≡ stored_bytes ss ++ rest
+pub chunk_shown : (file : List ℕ) (base place : ℕ) (ss : List Stored) (rest : List ℕ) → drop place file ≡ stored_bytes ss ++ rest
     → with_bytes file (samples_at base place (map timed ss)) ≡ map (held_since base) ss
 chunk_shown file base place [] rest e = refl
 chunk_shown file base place (s ∷ ss) rest e =
@@ -133,12 +132,12 @@ since_start by (s ∷ ss) above =
     let compose : (pos s.compose -ℤ pos by) +ℤ pos by ≡ pos s.compose = omega (arith, ints) in
     rw (decode, compose) (ap (λ (hs : List Held). held_as s ∷ hs) (since_start by ss above.1))
 
-length-samples_at : (base place : ℕ) (ss : List Timed) → length (samples_at base place ss) ≡ length ss
+pub length-samples_at : (base place : ℕ) (ss : List Timed) → length (samples_at base place ss) ≡ length ss
 length-samples_at base place [] = refl
 length-samples_at base place (s ∷ ss) = ap suc (length-samples_at base (place + s.size) ss)
 
 -- a chunk that isn't empty makes a group
-group_is : (file : List ℕ) (base place : ℕ) (ss : List Stored) (rest : List ℕ) → 0 < length ss → drop place file ≡ stored_bytes ss ++ rest
+pub group_is : (file : List ℕ) (base place : ℕ) (ss : List Stored) (rest : List ℕ) → 0 < length ss → drop place file ≡ stored_bytes ss ++ rest
     → group_of file (samples_at base place (map timed ss)) ≡ record { place = place; samples = map (held_since base) ss } ∷ []
 group_is file base place [] rest some e = absurd (omega (arith, some))
 group_is file base place (s ∷ ss) rest some e =

@@ -1,12 +1,12 @@
 -- Entries that are read one after the other.
-use Rattle.std.proofs.Common.{◌≡◌, ℕ, zero, suc, ◌+◌, ◌-◌, ◌*◌, ◌<◌, ◌≤◌, List, [], ◌∷◌, ◌++◌, take, drop, map, Bool, true, false, ◌==◌, ltb, get_or, refl, sym, ap, ◌∙◌, append_assoc, arith}
+use Rattle.std.proofs.Common.{◌≡◌, ℕ, suc, ◌+◌, ◌-◌, ◌*◌, ◌<◌, ◌≤◌, List, [], ◌∷◌, ◌++◌, take, drop, map, true, false, ◌==◌, ltb, get_or, refl, sym, ap, ◌∙◌, append_assoc, arith}
 use Rattle.std.proofs.lemmas.List.{drop-drop}
 use Rattle.sf_box.specs.Boxes.{word32, word64}
 use Rattle.std.specs.List.{list_any}
 use Rattle.std.proofs.lemmas.Bool.{eqb-true, ltb-true, lt-ltb, ne_eqb}
-use Rattle.sf_meaning.specs.Entries.{spread_of, spreads_as, places_from, from_chunk, firsts}
-use Rattle.sf_meaning.specs.Movie.{begins_rising}
-use Rattle.sf_meaning.specs.Tables.{run_pairs, Spread, spreads, words, wide_words, rising, spread_over, chunk_entries, count_in, places_in}
+use Rattle.sf_meaning.specs.inner.Entries.{spread_of, spreads_as, from_chunk, firsts}
+use Rattle.sf_meaning.specs.SampleTables.{begins_rising}
+use Rattle.sf_meaning.specs.Tables.{run_pairs, Spread, spreads, words, wide_words, rising, spread_over, chunk_entries}
 use Rattle.sf_meaning.specs.declared.entries.ChunkRun.{ChunkRun}
 use Rattle.sf_meaning.proofs.ListLemmas.{both_true}
 
@@ -92,26 +92,6 @@ wide_word_step from table n i lt =
     let k : n - i ≡ suc (n - (i + 1)) = omega arith in
     let next : (from + 8 * i) + 8 ≡ from + 8 * (i + 1) = omega arith in
     rw (k, drop-drop 8 (from + 8 * i) table, next) refl
-
--- the places of a table, from the first on
-pub places_begin : (wide : Bool) (n : ℕ) (table : List ℕ) → n ≡ count_in table → places_from wide n 0 table ≡ places_in wide table
-places_begin true n table e = let k : n - 0 ≡ count_in table = omega (arith, e) in rw k refl
-places_begin false n table e = let k : n - 0 ≡ count_in table = omega (arith, e) in rw k refl
-
--- the numbers behind the first ones
-drop_words : (i n : ℕ) (bytes : List ℕ) → i ≤ n → drop i (words n bytes) ≡ words (n - i) (drop (4 * i) bytes)
-drop_words zero n bytes le = let k : n - 0 ≡ n = omega arith in rw k refl
-drop_words (suc i) zero bytes le = absurd (omega (arith, le))
-drop_words (suc i) (suc n) bytes le =
-    let k : suc n - suc i ≡ n - i = omega arith in
-    let m : 4 + 4 * i ≡ 4 * suc i = omega arith in
-    rw (drop_words i n (drop 4 bytes) (omega (arith, le)), drop-drop (4 * i) 4 bytes, m, k) refl
-
--- the number at a place of those that stand behind twelve bytes
-pub word_at : (table : List ℕ) (n i : ℕ) → i < n → drop i (words n (drop 12 table)) ≡ word32 (drop (12 + 4 * i) table) ∷ drop (i + 1) (words n (drop 12 table))
-word_at table n i lt =
-    drop_words i n (drop 12 table) (omega (arith, lt))
-    ∙ rw (drop-drop (4 * i) 12 table, word_step 12 table n i lt, drop_words (i + 1) n (drop 12 table) (omega (arith, lt)), drop-drop (4 * (i + 1)) 12 table) refl
 
 -- numbers that rise from t on are all above it
 above_all : (t m : ℕ) (xs : List ℕ) → m ≤ t → rising t xs ≡ true → list_any (λ n. n == m) xs ≡ false

@@ -1,19 +1,15 @@
 -- Samples that are listed one after the other.
-use Rattle.std.proofs.Common.{◌≡◌, ℕ, zero, suc, ℤ, pos, ◌+ℤ◌, ◌+◌, ◌-◌, ◌<◌, ◌≤◌, ◌==◌, Bool, inl, inr, List, [], ◌∷◌, ◌++◌, length, take, drop, map, get_or, replicate, Option, Ok, Err, refl, sym, ap, ◌∙◌, append_assoc, arith}
+use Rattle.std.proofs.Common.{◌≡◌, ℕ, zero, suc, ℤ, pos, ◌+ℤ◌, ◌+◌, ◌-◌, ◌<◌, ◌≤◌, Bool, inl, inr, ◌⊎◌, List, [], ◌∷◌, ◌++◌, take, drop, map, get_or, replicate, Option, Ok, Err, refl, sym, ap, ◌∙◌, append_assoc, arith}
 use Rattle.sf_meaning.specs.Steps.{◌>>◌}
-use Rattle.sf_meaning.specs.Movie.{Step, rows, held_sample, held_in}
+use Rattle.sf_meaning.specs.TrackSamples.{rows}
+use Rattle.sf_meaning.specs.Tracks.{Step, held_sample, held_in}
 use Rattle.sf_meaning.specs.declared.movie.PlainSample.{PlainSample}
 use Rattle.sf_meaning.specs.declared.faults.MovieFault.{MovieFault}
-use Rattle.sf_meaning.specs.declared.stop.Stop.{Stop}
-use Rattle.sf_meaning.specs.declared.stop.Stop.TheVariants as stops
+use Rattle.sf_meaning.specs.declared.faults.MovieFault.TheVariants as movies
 use Rattle.sf_meaning.specs.declared.entries.ChunkAt.{ChunkAt}
 use Rattle.sf_meaning.specs.declared.entries.Places.{Places}
-use Rattle.std.proofs.lemmas.List.{length-replicate}
-use Rattle.sf_box.specs.Boxes.{word32}
-use Rattle.sf_meaning.specs.Entries.{places_as, held_as_listed, places_left, descriptions_left, sample_at}
-use Rattle.sf_meaning.specs.Reads.{Stops}
-use Rattle.sf_meaning.specs.Tables.{is_sync, running, placed, described, words, sample_count, sizes_in}
-use Rattle.sf_meaning.proofs.ListLemmas.{bool_tells}
+use Rattle.sf_meaning.specs.inner.Entries.{places_as, held_as_listed, places_left, descriptions_left, sample_at}
+use Rattle.sf_meaning.specs.Tables.{is_sync, running, placed, described}
 
 -- the samples so far, and the others, which count from i
 abbrev pub held_from : ℕ → ℕ → ℕ → List PlainSample → List PlainSample → Step (List PlainSample)
@@ -86,19 +82,7 @@ pub whole_step : (bytes track i : ℕ) (front rest behind_rest : List PlainSampl
     → held_from bytes track i front rest ≡ all → rest ≡ s ∷ behind_rest → held_sample bytes track i s ≡ Ok s → held_from bytes track (i + 1) (front ++ s ∷ []) behind_rest ≡ all
 whole_step bytes track i front rest behind_rest s all h e ok = held_more bytes track i front s behind_rest ok ∙ ap (held_from bytes track i front) (sym e) ∙ h
 
-pub whole_wrong : (bytes track i : ℕ) (front rest behind_rest : List PlainSample) (s : PlainSample) (all : Step (List PlainSample)) (e : Stop)
-    → held_from bytes track i front rest ≡ all → rest ≡ s ∷ behind_rest → Stops e (held_sample bytes track i s) → Stops e all
-whole_wrong bytes track i front rest behind_rest s all stops.NoMemory h e wrong = tt
-whole_wrong bytes track i front rest behind_rest s all (stops.Fault f) h e wrong = sym h ∙ ap (held_from bytes track i front) e ∙ held_wrong bytes track i front s behind_rest f wrong
-
--- as many sizes as are counted
-length-words_in : (n : ℕ) (bytes : List ℕ) → length (words n bytes) ≡ n
-length-words_in zero bytes = refl
-length-words_in (suc n) bytes = ap (λ (k : ℕ). suc k) (length-words_in n (drop 4 bytes))
-
-pub length-sizes_in : (stsz : List ℕ) → length (sizes_in stsz) ≡ sample_count stsz
-length-sizes_in stsz =
-    elim (bool_tells (word32 (drop 4 stsz) == 0)) [
-      | inl t ↦ rw t (length-words_in (sample_count stsz) (drop 12 stsz))
-      | inr f ↦ rw f (length-replicate (sample_count stsz) (word32 (drop 4 stsz)))
-    ]
+pub list_wrong : (bytes track i : ℕ) (front rest behind_rest : List PlainSample) (s : PlainSample) (all : Step (List PlainSample)) (e : MovieFault)
+    → held_from bytes track i front rest ≡ all → rest ≡ s ∷ behind_rest → (e ≡ movies.NoMemory) ⊎ (held_sample bytes track i s ≡ Err e) → (e ≡ movies.NoMemory) ⊎ (all ≡ Err e)
+list_wrong bytes track i front rest behind_rest s all e h is (inl p) = inl p
+list_wrong bytes track i front rest behind_rest s all e h is (inr p) = inr (sym h ∙ ap (held_from bytes track i front) is ∙ held_wrong bytes track i front s behind_rest e p)

@@ -5,7 +5,7 @@ use Rattle.std.proofs.lemmas.List.{map-append, length-append, length-map, take_a
 use Rattle.std.proofs.lemmas.List.Sums.{sum_by-cons}
 use Rattle.std.proofs.lemmas.Int.{ints}
 use Rattle.sf_meaning.specs.Tables.{running, placed}
-use Rattle.sf_meaning.specs.Movie.{rows}
+use Rattle.sf_meaning.specs.TrackSamples.{rows}
 use Rattle.sf_meaning.specs.Stbl.{Timed, Row, timed_of, sizes_in_rows, counts_in_rows, places_in_rows, deltas_of}
 use Rattle.sf_meaning.specs.Writable.{Paced, PacedFrom}
 use Rattle.sf_meaning.specs.Written.{sample_of, samples_at, listed}

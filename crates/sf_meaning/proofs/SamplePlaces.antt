@@ -5,11 +5,11 @@ use Rattle.std.proofs.lemmas.Bool.{cases_lt}
 use Rattle.std.proofs.lemmas.List.{length-append, length-take, length-drop, length-replicate, drop-drop, take-take, get_or_append_left, get_or-append_right, get_or-replicate, get_or-drop}
 use Rattle.std.proofs.lemmas.List.Sums.{sum_by-cons}
 use Rattle.sf_meaning.specs.Tables.{InChunk, is_sync, running, placed, described}
-use Rattle.sf_meaning.specs.Movie.{rows}
+use Rattle.sf_meaning.specs.TrackSamples.{rows}
 use Rattle.sf_meaning.specs.SampleAt.{IsChunkOf}
 use Rattle.sf_meaning.specs.declared.movie.PlainSample.{PlainSample}
 
-sum-cons : (x : ℕ) (xs : List ℕ) → sum (x ∷ xs) ≡ x + sum xs
+pub sum-cons : (x : ℕ) (xs : List ℕ) → sum (x ∷ xs) ≡ x + sum xs
 sum-cons x xs = sum_by-cons (λ (y : ℕ). y) x xs
 
 -- ---- running sums

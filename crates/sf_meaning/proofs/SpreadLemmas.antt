@@ -9,7 +9,7 @@ use Rattle.sf_box.specs.Boxes.{be32}
 use Rattle.sf_box.proofs.BoxLaws.{word32_of, drop_word, length-be32}
 use Rattle.sf_meaning.specs.Tables.{Spread, InChunk, in_chunk, spreads, spread_over, chunk_entries, described, rising, count_in, spreads_in}
 use Rattle.sf_meaning.specs.Stbl.{spread_from, spread_bytes, stsc_body}
-use Rattle.sf_meaning.specs.Movie.{begins_rising}
+use Rattle.sf_meaning.specs.SampleTables.{begins_rising}
 use Rattle.sf_meaning.proofs.ListLemmas.{all-append}
 use Rattle.sf_meaning.proofs.TableLemmas.{Word, after_two, count_of_table, entries_of_table, length-table}
 

@@ -3,46 +3,34 @@ use Rattle.std.specs.Prelude.{ℕ, List, [], ◌∷◌, ◌++◌, length, take, 
 use Rattle.std.specs.List.{slice_get}
 use Rattle.sf_box.specs.Boxes.{Piece}
 use Rattle.sf_meaning.specs.Steps.{◌>>=◌, of_kind, body_at}
-use Rattle.sf_meaning.specs.Tables.{InChunk, chunk_entries, count_in, spreads_in}
-use Rattle.sf_meaning.specs.Movie.{Step, Tables, top_boxes, only_moov, in_moov, tracks_of, media_in, information_in, in_table, tables_told, movie}
+use Rattle.sf_meaning.specs.TrackSamples.{counts_of}
+use Rattle.sf_meaning.specs.Tracks.{Step, TrackParts, parts_in}
+use Rattle.sf_meaning.specs.Movie.{top_boxes, only_moov, in_moov, tracks_of, movie_scale, movie}
 use Rattle.sf_meaning.specs.Joined.{Held, held_in_file, of_track}
 use Rattle.sf_meaning.specs.declared.movie.PlainSample.{PlainSample}
 
--- what holds in each chunk of a track, and how many samples each has
-abbrev pub chunks_of : Tables → List InChunk
-chunks_of t = chunk_entries (spreads_in t.stsc.body) (count_in t.places.body)
-
-abbrev pub counts_of : Tables → List ℕ
-counts_of t = map (λ c. c.per) (chunks_of t)
-
--- the tables of a track (8.3.1), from its box
-unfoldable pub tables_of_track : Piece → Step Tables
-tables_of_track trak = do
-  media ← media_in trak
-  information ← information_in media.1
-  ps ← in_table information.1
-  tables_told information.1 ps
-
--- the boxes of the tracks of a file
-unfoldable pub traks_in : List ℕ → Step (List Piece)
+-- the timescale of a file's movie, and the boxes of its tracks
+unfoldable pub traks_in : List ℕ → Step (ℕ × List Piece)
 traks_in file = do
   ps ← top_boxes file
   moov ← only_moov (length file) (of_kind (codes "moov") ps)
   qs ← in_moov moov.body (body_at moov)
-  tracks_of qs
+  traks ← tracks_of qs
+  scale ← movie_scale (body_at moov) qs
+  Ok (scale, traks)
 
--- how many samples each chunk has, as tables that were read say
-abbrev pub counts_read : Step Tables → Option (List ℕ)
+-- how many samples each chunk has, as the tables of a track say
+abbrev pub counts_read : Step TrackParts → Option (List ℕ)
 counts_read (Err e) = None
-counts_read (Ok t) = Some (counts_of t)
+counts_read (Ok p) = Some (counts_of p.tables)
 
-abbrev pub counts_in_trak : Option Piece → Option (List ℕ)
-counts_in_trak None = None
-counts_in_trak (Some trak) = counts_read (tables_of_track trak)
+abbrev pub counts_in_trak : ℕ → Option Piece → Option (List ℕ)
+counts_in_trak scale None = None
+counts_in_trak scale (Some trak) = counts_read (parts_in scale trak)
 
-abbrev pub counts_among : ℕ → Step (List Piece) → Option (List ℕ)
+abbrev pub counts_among : ℕ → Step (ℕ × List Piece) → Option (List ℕ)
 counts_among t (Err e) = None
-counts_among t (Ok traks) = counts_in_trak (slice_get traks t)
+counts_among t (Ok found) = counts_in_trak found.0 (slice_get found.1 t)
 
 -- How many samples each chunk of a track of a file has.
 unfoldable pub chunk_counts : List ℕ → ℕ → Option (List ℕ)

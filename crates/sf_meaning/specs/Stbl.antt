@@ -1,12 +1,10 @@
 -- The sample table box of a track as it is written (8.5.1), from the chunks of the track as they stand in the file.
-use Rattle.std.specs.Prelude.{ℕ, ◌+◌, ◌-◌, ◌^◌, ◌%◌, ◌==◌, nat_lt, nat_le, Bool, List, [], ◌∷◌, ◌++◌, length, map, sum, codes, replicate, if◌then◌else◌}
+use Rattle.std.specs.Prelude.{ℕ, ◌+◌, ◌-◌, ◌^◌, ◌%◌, ◌==◌, nat_lt, nat_le, Bool, List, [], ◌∷◌, ◌++◌, length, map, sum, codes, if◌then◌else◌}
 use Rattle.std.specs.List.{flat_map, list_all}
 use Rattle.sf_box.specs.Boxes.{be32, be64}
 use Rattle.sf_box.specs.Parts.{Part}
+pub use Rattle.sf_entry.specs.Mp4a.{zeros}
 use Rattle.sf_meaning.specs.Tables.{Spread}
-
-abbrev pub zeros : ℕ → List ℕ
-zeros n = replicate n 0
 
 -- What the tables say of a sample: its ticks, whether it is sync, and how many bytes it has.
 pub record Timed : Type 0 where

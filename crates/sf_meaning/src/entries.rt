@@ -1,14 +1,14 @@
 /// A run of the decoding time box (ISO/IEC 14496-12, 8.6.1.2): so many samples with this delta. Of the
 /// composition offset box (8.6.1.3): so many with this offset, as it stands in the file.
-#[derive(Clone, Copy)]
-pub(crate) struct TimeRun {
+#[derive(Clone, Copy, Debug, PartialEq, Eq)]
+pub struct TimeRun {
     pub count: u32,
     pub delta: u32,
 }
 
 /// An entry of the sample-to-chunk box (8.7.4).
-#[derive(Clone, Copy)]
-pub(crate) struct ChunkRun {
+#[derive(Clone, Copy, Debug, PartialEq, Eq)]
+pub struct ChunkRun {
     /// The number of its first chunk, from 1.
     pub first: u32,
     /// Samples in each chunk.
@@ -19,7 +19,7 @@ pub(crate) struct ChunkRun {
 
 /// A chunk: where it begins, how many samples it has, and their description.
 #[derive(Clone, Copy)]
-pub(crate) struct ChunkAt {
+pub struct ChunkAt {
     pub place: u64,
     pub per: u32,
     pub description: u32,

@@ -1,17 +1,11 @@
+//! What is left of the times, the offsets, the sync samples and the places of a track.
+
 ghost use Rattle.std.specs.Prelude.{◌≡◌, ℕ, pos, neg_ℤ, ◌≤ℤ◌, ◌<ℤ◌, ◌+◌, ◌-◌, ◌*◌, ◌^◌, ◌<◌, ◌≤◌, ◌⊎◌, true, List, [], ◌∷◌, length, drop, get_or, Some, OnOk, IfOk};
-ghost use Rattle.sf_box.specs.Boxes.{word32};
-ghost use Rattle.sf_meaning.specs.Entries.{times_left, time_count, offsets_left, syncs_left, Rises, places_left, descriptions_left, place_count, sample_at};
-ghost use Rattle.sf_meaning.specs.Reads.{Gives};
-ghost use Rattle.sf_meaning.specs.Tables.{offset_in, is_sync, rising, sample_count, sizes_in};
-ghost use Rattle.sf_meaning.specs.Movie.{rows, held_sample, held_samples};
+ghost use Rattle.sf_meaning.specs.inner.Entries.{times_left, time_count, offsets_left, syncs_left, Rises, places_left, descriptions_left, place_count, sample_at};
+ghost use Rattle.sf_meaning.specs.Tables.{offset_in, is_sync, rising};
 
 use crate::entries::{Offsets, Places, Syncs, Times};
-use crate::faults::MovieFault;
 use crate::movie::PlainSample;
-use crate::stop::Stop;
-use sf_box::read_u32;
-use sf_list::Items;
-use std::alloc::Global;
 
 // The same times, with some left of the run.
 fn in_run(times: Times<'_>) -> Times<'_>
@@ -37,7 +31,7 @@ fn in_run(times: Times<'_>) -> Times<'_>
 }
 
 // The next decode time, and those behind it.
-fn next_time<'a>(times: Times<'a>) -> (u64, Times<'a>)
+pub(crate) fn next_time<'a>(times: Times<'a>) -> (u64, Times<'a>)
     requires some { 0 < time_count times }
     requires fits { times.decode + 2 ^ 32 < 2 ^ 64 }
     ensures first { times_left times.entry ≡ result.0 ∷ times_left result.1 }
@@ -77,8 +71,8 @@ fn in_offset_run(offsets: Offsets<'_>) -> Offsets<'_>
     now
 }
 
-// A composition offset (8.6.1.3), as it stands in a box of a version.
-fn offset_in(version: u8, word: u32) -> i64
+/// A composition offset (8.6.1.3), as it stands in a box of a version.
+pub fn offset_in(version: u8, word: u32) -> i64
     ensures exact { result ≡ offset_in version word }
     ensures least { neg_ℤ (pos (2 ^ 31)) ≤ℤ result }
     ensures most { result <ℤ pos (2 ^ 32) }
@@ -91,7 +85,7 @@ fn offset_in(version: u8, word: u32) -> i64
 }
 
 // The next composition offset, which is 0 where none is left, and those behind it.
-fn next_offset<'a>(offsets: Offsets<'a>) -> (i64, Offsets<'a>)
+pub(crate) fn next_offset<'a>(offsets: Offsets<'a>) -> (i64, Offsets<'a>)
     ensures first { result.0 ≡ get_or (offsets_left offsets.entry) 0 (pos 0) }
     ensures behind { offsets_left result.1 ≡ drop 1 (offsets_left offsets.entry) }
     ensures least { neg_ℤ (pos (2 ^ 31)) ≤ℤ result.0 }
@@ -130,7 +124,7 @@ fn next_number<'a>(numbers: &'a [u32], number: u32) -> (bool, &'a [u32])
 }
 
 // Whether the sample of a number, from 1, is sync, and which of those behind it are.
-fn next_sync<'a>(syncs: Syncs<'a>, number: u32) -> (bool, Syncs<'a>)
+pub(crate) fn next_sync<'a>(syncs: Syncs<'a>, number: u32) -> (bool, Syncs<'a>)
     requires rising { Rises (number - 1) (syncs_left syncs) }
     ensures here { result.0 ≡ is_sync (syncs_left syncs.entry) number }
     ensures behind { (later : ℕ) → number < later → is_sync (syncs_left result.1) later ≡ is_sync (syncs_left syncs.entry) later }
@@ -146,7 +140,7 @@ fn next_sync<'a>(syncs: Syncs<'a>, number: u32) -> (bool, Syncs<'a>)
 }
 
 // The same places, with some left of the chunk.
-fn in_chunk(places: Places<'_>) -> Places<'_>
+pub(crate) fn in_chunk(places: Places<'_>) -> Places<'_>
     requires { 0 < place_count places }
     ensures some { 0 < result.left }
     ensures same { (sizes : List ℕ) → places_left result sizes ≡ places_left places.entry sizes }
@@ -168,23 +162,14 @@ fn in_chunk(places: Places<'_>) -> Places<'_>
     now
 }
 
-// The size of a sample.
-fn size_at(stsz: &[u8], count: u32, i: u32) -> u32
-    requires count { count ≡ sample_count stsz.now }
-    requires fields { 12 ≤ length stsz.now }
-    requires table { (1 ≤ word32 (drop 4 stsz.now)) ⊎ (12 + 4 * count ≤ length stsz.now) }
-    requires there { i < count }
-    ensures { drop i (sizes_in stsz.now) ≡ result ∷ drop (i + 1) (sizes_in stsz.now) }
-{
-    let same = read_u32(stsz, 4);
-    if same != 0 {
-        return same;
-    }
-    read_u32(stsz, 12 + 4 * i as usize)
-}
-
 // A sample at the next place.
-fn sample_at(here: Places<'_>, decode: u64, offset: i64, sync: bool, size: u32) -> PlainSample
+pub(crate) fn sample_at(
+    here: Places<'_>,
+    decode: u64,
+    offset: i64,
+    sync: bool,
+    size: u32,
+) -> PlainSample
     requires decode { decode < 2 ^ 62 }
     requires least { neg_ℤ (pos (2 ^ 31)) ≤ℤ offset }
     requires most { offset <ℤ pos (2 ^ 32) }
@@ -198,83 +183,4 @@ fn sample_at(here: Places<'_>, decode: u64, offset: i64, sync: bool, size: u32) 
         size,
         description: here.description,
     }
-}
-
-// The sample, where it lies in the file and isn't too long. Samples count from 0.
-fn held_sample(file_len: u64, track: u32, i: u32, sample: PlainSample) -> Result<PlainSample, Stop>
-    ensures held { Gives (λ sample. sample) result (held_sample file_len track i sample) }
-    ensures same { IfOk result (λ held. held ≡ sample) }
-    ensures within { OnOk result (sample.place + sample.size ≤ file_len) }
-{
-    if sample.place > file_len || u64::from(sample.size) > file_len - sample.place {
-        return Err(Stop::Fault(MovieFault::SampleOutside {
-            track,
-            sample: u64::from(i),
-        }));
-    }
-    if sample.size > 67_108_864 {
-        return Err(Stop::Fault(MovieFault::SampleTooLarge {
-            track,
-            sample: u64::from(i),
-            size: sample.size,
-        }));
-    }
-    Ok(sample)
-}
-
-/// The samples with these sizes, times, offsets and places, which a file of so many bytes holds.
-pub(crate) fn listed(
-    alloc: Global,
-    file_len: u64,
-    track: u32,
-    stsz: &[u8],
-    count: u32,
-    times: Times<'_>,
-    offsets: Offsets<'_>,
-    syncs: Syncs<'_>,
-    places: Places<'_>,
-) -> Result<Items<PlainSample>, Stop>
-    requires count { count ≡ sample_count stsz.now }
-    requires few { count ≤ 16777216 }
-    requires fields { 12 ≤ length stsz.now }
-    requires table { (1 ≤ word32 (drop 4 stsz.now)) ⊎ (12 + 4 * count ≤ length stsz.now) }
-    requires times { count ≤ time_count times }
-    requires early { times.decode ≡ 0 }
-    requires rising { Rises 0 (syncs_left syncs) }
-    requires places { count ≤ place_count places }
-    ensures { Gives (λ samples. samples) result (held_samples file_len track
-        (rows 1 (sizes_in stsz.now) (times_left times.entry) (offsets_left offsets.entry) (syncs_left syncs.entry)
-        (places_left places.entry (sizes_in stsz.now)) (descriptions_left places.entry))) }
-{
-    let mut samples = Items::new(alloc);
-    let mut times = times;
-    let mut offsets = offsets;
-    let mut syncs = syncs;
-    let mut places = places;
-    for i in 0..count {
-        let size = size_at(stsz, count, i);
-        let (decode, later) = next_time(times);
-        let (offset, other) = next_offset(offsets);
-        let (sync, behind) = next_sync(syncs, i + 1);
-        let here = in_chunk(places);
-        match held_sample(
-            file_len,
-            track,
-            i,
-            sample_at(here, decode, offset, sync, size),
-        ) {
-            Ok(sample) => samples.push(sample)?,
-            Err(stop) => return Err(stop),
-        }
-        times = later;
-        offsets = other;
-        syncs = behind;
-        places = Places {
-            place: here.place + u64::from(size),
-            left: here.left - 1,
-            description: here.description,
-            chunks: here.chunks,
-        };
-    }
-    Ok(samples)
 }

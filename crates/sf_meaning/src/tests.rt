@@ -1,12 +1,16 @@
 //! Movies by hand: the file of three samples, with one change after the other.
 
 use super::*;
-use sf_box::{BoxFault, FourCc, put_box};
+use sf_box::{BoxFault, BoxHead, FourCc, put_box};
 use sf_list::Bytes;
 use std::alloc::{AllocError, Global};
 
 mod changes;
+mod movies;
 mod optional;
+mod orders;
+mod readers;
+mod refusals;
 mod tables;
 
 /// A file of three AAC samples of four bytes, 1024 ticks apart: `ftyp` at 0, `mdat` at 24, `moov` at 52.

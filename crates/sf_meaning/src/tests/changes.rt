@@ -21,13 +21,45 @@ fn found(alloc: Global, at: usize, word: u32) -> Result<Option<MovieFault>, Allo
 }
 
 #[test]
-fn a_box_of_another_type_is_told_at_its_place(rt: HostRuntime) -> Result<(), Fail> {
-    let boxes = [
-        60, 168, 176, 268, 276, 308, 353, 361, 377, 385, 413, 421, 524, 548, 568, 596, 616, 624,
+fn a_box_of_an_unknown_type_is_passed_over(rt: HostRuntime) -> Result<(), Fail> {
+    let head = |kind: [u8; 4], at: u64| {
+        Some(MovieFault::Head(HeadFault::Missing {
+            kind: FourCc(kind),
+            at,
+        }))
+    };
+    let table = |kind: [u8; 4]| {
+        Some(MovieFault::Table(TableFault::Missing {
+            kind: FourCc(kind),
+            at: 421,
+        }))
+    };
+    let cases = [
+        (60usize, head(*b"mvhd", 60)),
+        (168, None),
+        (176, None),
+        (268, head(*b"mdia", 176)),
+        (276, head(*b"mdhd", 276)),
+        (308, None),
+        (353, head(*b"minf", 276)),
+        (361, None),
+        (377, None),
+        (385, None),
+        (413, head(*b"stbl", 361)),
+        (421, table(*b"stsd")),
+        (524, table(*b"stts")),
+        (548, table(*b"stsz")),
+        (568, table(*b"stsc")),
+        (596, table(*b"stco")),
+        (616, None),
+        (624, None),
     ];
-    for at in boxes {
-        let fault = found(rt.alloc(), at as usize + 4, word(b"free"))?;
-        assert_eq!(rt; fault, Some(MovieFault::NotYet { at }), "at {at}");
+    for (at, fault) in cases {
+        assert_eq!(rt;
+            found(rt.alloc(), at.saturating_add(4), word(b"free"))?,
+            fault,
+            "at {at}"
+        );
     }
     Ok(())
 }
@@ -72,11 +104,6 @@ fn a_box_that_passes_its_holder_is_told_at_its_place(rt: HostRuntime) -> Result<
             93,
             MovieFault::Table(TableFault::Tiling(overrun(524, 93))),
         ),
-        (
-            624,
-            17,
-            MovieFault::Head(HeadFault::Tiling(overrun(624, 17))),
-        ),
     ];
     for (at, size, fault) in cases {
         assert_eq!(rt; found(rt.alloc(), at, size)?, Some(fault), "at {at}");
@@ -94,9 +121,6 @@ fn a_field_that_is_wrong_is_told_at_its_box(rt: HostRuntime) -> Result<(), Fail>
     let cases = [
         (28, word(b"moov"), MovieFault::TwoMoov { at: 52 }),
         (56, word(b"free"), MovieFault::NoMoov { at: 640 }),
-        (68, 0x0100_0000, MovieFault::NotYet { at: 60 }),
-        (284, 0x0100_0000, MovieFault::NotYet { at: 276 }),
-        (500, 1, MovieFault::NotYet { at: 421 }),
         (80, 0, MovieFault::Head(HeadFault::Scale0 { at: 60 })),
         (296, 0, MovieFault::Head(HeadFault::Scale0 { at: 276 })),
         (409, 0, MovieFault::External { at: 437 }),
@@ -225,6 +249,15 @@ fn a_field_that_is_wrong_is_told_at_its_box(rt: HostRuntime) -> Result<(), Fail>
     ];
     for (at, word, fault) in cases {
         assert_eq!(rt; found(rt.alloc(), at, word)?, Some(fault), "at {at}");
+    }
+    Ok(())
+}
+
+#[test]
+fn what_is_not_looked_at_may_change(rt: HostRuntime) -> Result<(), Fail> {
+    // the sizes of the start's box, two versions, a bitrate of the sound
+    for (at, word) in [(624, 17), (68, 0x0100_0000), (284, 0x0100_0000), (500, 1)] {
+        assert_eq!(rt; found(rt.alloc(), at, word)?, None, "at {at}");
     }
     Ok(())
 }

@@ -159,18 +159,18 @@ fn optional_tables_have_faults_of_their_own(rt: HostRuntime) -> Result<(), Fail>
 }
 
 #[test]
-fn optional_tables_stand_in_this_order(rt: HostRuntime) -> Result<(), Fail> {
+fn tables_stand_in_any_order(rt: HostRuntime) -> Result<(), Fail> {
     let zero: &[u8] = b"\0\0\0\0";
     let tables = [
-        (STTS, FIELDS, TIMES),
+        (STCO, FIELDS, PLACES),
         (STSS, FIELDS, zero),
         (CTTS, FIELDS, zero),
-        (STSZ, FIELDS, SIZES),
         (STSC, FIELDS, SPREAD),
-        (STCO, FIELDS, PLACES),
+        (STSZ, FIELDS, SIZES),
+        (STTS, FIELDS, TIMES),
+        (STTS, FIELDS, zero),
     ];
-    let fault = MovieFault::NotYet { at: 564 };
-    assert_eq!(rt; read(rt.alloc(), &tables, 1000)?.err(), Some(fault));
+    assert_eq!(rt; read(rt.alloc(), &tables, 1000)?.err(), None);
     Ok(())
 }
 

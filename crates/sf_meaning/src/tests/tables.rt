@@ -142,7 +142,7 @@ fn tables_that_end_too_early_are_refused(rt: HostRuntime) -> Result<(), Fail> {
 }
 
 #[test]
-fn a_table_that_lacks_is_told_where_its_holder_begins(rt: HostRuntime) -> Result<(), Fail> {
+fn a_table_that_is_missing_is_told_where_its_holder_begins(rt: HostRuntime) -> Result<(), Fail> {
     let tables = [
         (STTS, FIELDS, TIMES),
         (STSZ, FIELDS, SIZES),
@@ -150,7 +150,10 @@ fn a_table_that_lacks_is_told_where_its_holder_begins(rt: HostRuntime) -> Result
     ];
     assert_eq!(rt;
         read(rt.alloc(), &tables, 1000)?.err(),
-        Some(MovieFault::NotYet { at: 421 })
+        Some(MovieFault::Table(TableFault::Missing {
+            kind: STCO,
+            at: 421,
+        }))
     );
     Ok(())
 }

@@ -1,6 +1,6 @@
 use Rattle.std.proofs.Common.{◌≡◌, take}
 use Rattle.sf_box.specs.Reading.{pieces_at}
-use Rattle.sf_meaning.specs.Reads.{pieces}
+use Rattle.sf_meaning.specs.inner.Found.{pieces}
 use Rattle.sf_meaning.proofs.boxes.boxes_in.Given as goal
 
 abbrev pub invariant-loop-head : goal.invariant-loop-head

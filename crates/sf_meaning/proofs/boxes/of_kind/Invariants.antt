@@ -1,6 +1,6 @@
 use Rattle.std.proofs.Common.{◌≡◌, ◌++◌, drop}
 use Rattle.sf_meaning.specs.Steps.{of_kind}
-use Rattle.sf_meaning.specs.Reads.{pieces}
+use Rattle.sf_meaning.specs.inner.Found.{pieces}
 use Rattle.sf_meaning.proofs.boxes.of_kind.Given as goal
 
 abbrev pub invariant-loop-found : goal.invariant-loop-found

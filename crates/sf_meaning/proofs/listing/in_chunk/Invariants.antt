@@ -1,5 +1,5 @@
 use Rattle.std.proofs.Common.{◌≡◌, ℕ, ◌<◌, List, length}
-use Rattle.sf_meaning.specs.Entries.{places_left, descriptions_left, place_count}
+use Rattle.sf_meaning.specs.inner.Entries.{places_left, descriptions_left, place_count}
 use Rattle.sf_meaning.proofs.listing.in_chunk.Given as goal
 
 abbrev pub invariant-loop-now : goal.invariant-loop-now

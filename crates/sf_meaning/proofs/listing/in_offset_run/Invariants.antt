@@ -1,5 +1,5 @@
 use Rattle.std.proofs.Common.{◌≡◌, length}
-use Rattle.sf_meaning.specs.Entries.{offsets_left}
+use Rattle.sf_meaning.specs.inner.Entries.{offsets_left}
 use Rattle.sf_meaning.proofs.listing.in_offset_run.Given as goal
 
 abbrev pub invariant-loop-now : goal.invariant-loop-now

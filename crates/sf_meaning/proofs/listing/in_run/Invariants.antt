@@ -1,5 +1,5 @@
 use Rattle.std.proofs.Common.{◌≡◌, ◌<◌, length}
-use Rattle.sf_meaning.specs.Entries.{times_left, time_count}
+use Rattle.sf_meaning.specs.inner.Entries.{times_left, time_count}
 use Rattle.sf_meaning.proofs.listing.in_run.Given as goal
 
 abbrev pub invariant-loop-now : goal.invariant-loop-now

@@ -1,9 +1,0 @@
-use Rattle.std.proofs.Common.{refl}
-use Rattle.sf_meaning.proofs.Tracks.{behind_64, none_behind_64}
-use Rattle.sf_meaning.proofs.plain.few_tracks.Goals as goal
-
-pub returns-then-traks-gt64 : goal.returns-then-traks-gt64
-returns-then-traks-gt64 c = record { few = rw (behind_64 c.args.traks.now c.index-traks-64.result c.if-traks-gt64.true c.index-traks-64.is) refl; count = tt }
-
-pub returns : goal.returns
-returns c = record { few = rw (none_behind_64 c.args.traks.now c.if-traks-gt64.false) refl; count = c.if-traks-gt64.false }

@@ -1,0 +1,9 @@
+use Rattle.std.proofs.lemmas.List.{map-append}
+use Rattle.sf_meaning.specs.inner.Entries.{time_runs}
+use Rattle.sf_meaning.proofs.EntryLemmas.{pushed_step, run_step}
+use Rattle.sf_meaning.proofs.stts.time_runs.Goals as goal
+
+pub loop-i-preserved : goal.loop-i-preserved
+loop-i-preserved c =
+    let step = run_step c.args.stts.now c.args.count c.loop-i.i c.loop-i-test.true in
+    rw (c.in_ok-push.ensures.items, map-append) (pushed_step (time_runs c.loop-i.runs.items) _ _ _ _ c.loop-i.invariant (rw (c.read_u32.ensures, c.read_u32-in-loop-i.ensures) step))

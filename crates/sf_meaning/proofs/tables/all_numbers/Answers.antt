@@ -1,7 +1,0 @@
-use Rattle.sf_meaning.proofs.EntryLemmas.{pushed_step, word_step}
-use Rattle.sf_meaning.proofs.tables.all_numbers.Goals as goal
-
-pub loop-i-preserved : goal.loop-i-preserved
-loop-i-preserved c =
-    let step = word_step 8 c.args.table.now c.args.count c.loop-i.i c.loop-i-test.true in
-    rw c.in_ok-push.ensures.items (pushed_step c.loop-i.numbers.items _ _ _ _ c.loop-i.invariant (rw c.read_u32.ensures step))

@@ -1,0 +1,5 @@
+pub mod Entries
+pub mod Found
+pub mod Tracks
+pub mod Faults
+pub mod TrackTables
