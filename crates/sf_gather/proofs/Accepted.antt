@@ -1,5 +1,5 @@
--- A sample that isn't refused can stand behind the last one.
-use Rattle.std.proofs.Common.{◌≡◌, ℕ, ◌+◌, ◌-◌, ◌^◌, ◌<◌, ◌≤◌, Bool, true, false, ◌||◌, cond, List, [], ◌∷◌, ◌++◌, length, Option, Some, None, refl, arith}
+-- A sample that isn't refused can stand after the last one; and which faults a sample has.
+use Rattle.std.proofs.Common.{◌≡◌, ◌≢◌, ℕ, ◌+◌, ◌-◌, ◌^◌, ◌<◌, ◌≤◌, Bool, true, false, ◌||◌, cond, List, [], ◌∷◌, ◌++◌, length, Option, Some, None, Result, Ok, Err, refl, arith}
 use Rattle.std.specs.Option.{IfSome}
 use Rattle.std.specs.Prelude.{nat_lt, nat_le}
 use Rattle.std.proofs.lemmas.Bool.Decides.{nat_tests}
@@ -9,9 +9,15 @@ use Rattle.sf_tick.specs.declared.types.Stored.{Stored}
 use Rattle.sf_gather.specs.declared.given.Given.{Given}
 use Rattle.sf_gather.specs.declared.given.LastSample.{LastSample}
 use Rattle.sf_gather.specs.declared.accepting.SampleFault.{SampleFault}
-use Rattle.sf_gather.specs.declared.accepting.SampleFault.TheVariants.{TimeTooLarge, Falls, GapTooLong, OffsetTooLarge}
-use Rattle.sf_gather.specs.Accepting.{refusal, first_fault, too_large, before_start, falls, gap_too_long, offset_too_large, stored_of, tick_at, kept_of, last_from}
+use Rattle.sf_gather.specs.declared.accepting.SampleFault.TheVariants.{TimeTooLarge, BeforeStart, Falls, GapTooLong, OffsetTooLarge}
+use Rattle.sf_avc.specs.declared.nal.NalFault.{NalFault}
+use Rattle.sf_avc.specs.declared.nal.NalFault.TheVariants.{NoStart, EmptyUnit, NoMemory}
+use Rattle.sf_avc.specs.Stored.{stored}
+use Rattle.sf_tick.specs.declared.types.Kind.{Kind}
+use Rattle.sf_tick.specs.declared.types.Kind.TheVariants.{Avc, Aac}
+use Rattle.sf_gather.specs.Accepting.{refusal, time_refusal, first_fault, too_large, before_start, falls, gap_too_long, offset_too_large, not_units, refused_units, stored_form, bytes_of, stored_of, tick_at, kept_of, last_from, IsOfSample}
 use Rattle.sf_gather.specs.Proper.{Follows, AllFollow}
+use Rattle.sf_gather.proofs.Sizes.{stored_fault, stored_length, stored_some}
 
 -- no rule of a list fails where none is the first one
 first_none : (rule : Option SampleFault) (rules : List (Option SampleFault)) → first_fault (rule ∷ rules) ≡ None → (rule ≡ None) × (first_fault rules ≡ None)
@@ -43,14 +49,29 @@ in_time sample e =
     let test : (nat_lt (2 ^ 48) sample.dts_us || nat_lt (2 ^ 48) sample.pts_us) ≡ false = unless _ TimeTooLarge e in
     (grind (arith, nat_tests), grind (arith, nat_tests))
 
+form_if : (form : Result (List ℕ) NalFault) → refused_units form ≡ None → form ≡ Ok (bytes_of form)
+form_if (Ok bytes) e = refl
+form_if (Err fault) e = absurd (cc e)
+
+-- what is stored of a payload that isn't refused has 1 to 2 ^ 25 bytes
+form_size : (kind : Kind) (payload : List ℕ) → refused_units (stored_form kind payload) ≡ None → 1 ≤ length payload → length payload ≤ 2 ^ 24
+    → (1 ≤ length (bytes_of (stored_form kind payload))) × (length (bytes_of (stored_form kind payload)) ≤ 2 ^ 25)
+form_size Aac payload e some size = (some, omega (arith, size))
+form_size Avc payload e some size =
+    let is : stored payload ≡ Ok (bytes_of (stored payload)) = form_if (stored payload) e in
+    (stored_some payload _ is, omega (arith, size, stored_length payload _ is))
+
 pub accepted_follows : (given : Given) (last : Option LastSample) (sample : Sample) → refusal given last sample ≡ None → 1 ≤ length sample.bytes → length sample.bytes ≤ 2 ^ 24
     → Follows given.scale last (stored_of given sample)
 accepted_follows given last sample e some size =
-    let r0 = first_none (too_large sample) _ e in
+    let r = first_none (time_refusal given last sample) _ e in
+    let r0 = first_none (too_large sample) _ r.0 in
     let r1 = first_none (before_start given sample) _ r0.1 in
     let r2 = first_none (falls given last sample) _ r1.1 in
     let r3 = first_none (gap_too_long given last sample) _ r2.1 in
     let r4 = first_none (offset_too_large given sample) [] r3.1 in
+    let units = first_none (not_units given sample) [] r.1 in
+    let sized = form_size given.kind sample.bytes units.0 some size in
     let t = in_time sample r0.0 in
     record {
       time = omega (arith, t.0);
@@ -59,9 +80,65 @@ accepted_follows given last sample e some size =
       near = near_by given last sample r3.0;
       offset = when _ OffsetTooLarge r4.0;
       compose = tick_rises (sample.pts_us - given.options.start_us) (2 ^ 48) given.scale (omega (arith, t.1));
-      some = some;
-      size = omega (arith, size);
+      some = sized.0;
+      size = sized.1;
     }
+
+-- ---- which faults a sample has
+
+-- a fault, if there is one, says something of the sample
+abbrev OfSample : Option SampleFault → Type 0
+OfSample rule = IfSome rule IsOfSample
+
+first_of : (rule : Option SampleFault) (rules : List (Option SampleFault)) → OfSample rule → OfSample (first_fault rules) → OfSample (first_fault (rule ∷ rules))
+first_of None rules one more = more
+first_of (Some fault) rules one more = one
+
+if_of : (b : Bool) (fault : SampleFault) → IsOfSample fault → OfSample (cond b (Some fault) None)
+if_of true fault of = of
+if_of false fault of = tt
+
+unless_of : (b : Bool) (fault : SampleFault) → IsOfSample fault → OfSample (cond b None (Some fault))
+unless_of true fault of = tt
+unless_of false fault of = of
+
+falls_of : (given : Given) (last : Option LastSample) (sample : Sample) → OfSample (falls given last sample)
+falls_of given None sample = tt
+falls_of given (Some last) sample = if_of _ (Falls (last.dts_us + given.options.start_us)) tt
+
+gap_of : (given : Given) (last : Option LastSample) (sample : Sample) → OfSample (gap_too_long given last sample)
+gap_of given None sample = tt
+gap_of given (Some last) sample = if_of _ GapTooLong tt
+
+units_of : (form : Result (List ℕ) NalFault) → form ≢ Err NoMemory → OfSample (refused_units form)
+units_of (Ok bytes) not = tt
+units_of (Err NoStart) not = tt
+units_of (Err (EmptyUnit at)) not = tt
+units_of (Err NoMemory) not = not refl
+
+form_not : (kind : Kind) (payload : List ℕ) → stored_form kind payload ≢ Err NoMemory
+form_not Aac payload e = cc e
+form_not Avc payload e = stored_fault payload e
+
+-- a sample isn't refused for want of memory
+pub refusal_tells : (given : Given) (last : Option LastSample) (sample : Sample) → IfSome (refusal given last sample) IsOfSample
+refusal_tells given last sample =
+    first_of (time_refusal given last sample) _
+    (first_of (too_large sample) _ (if_of _ TimeTooLarge tt)
+    (first_of (before_start given sample) _ (if_of _ BeforeStart tt)
+    (first_of (falls given last sample) _ (falls_of given last sample)
+    (first_of (gap_too_long given last sample) _ (gap_of given last sample)
+    (first_of (offset_too_large given sample) [] (unless_of _ OffsetTooLarge tt) tt)))))
+    (first_of (not_units given sample) [] (units_of (stored_form given.kind sample.bytes) (form_not given.kind sample.bytes)) tt)
+
+both_none : (rule other : Option SampleFault) → rule ≡ None → other ≡ None → first_fault (rule ∷ other ∷ []) ≡ None
+both_none None None e f = refl
+both_none None (Some fault) e f = f
+both_none (Some fault) other e f = e
+
+-- a sample is accepted that isn't refused for its times nor for its units
+pub no_refusal : (given : Given) (last : Option LastSample) (sample : Sample) → time_refusal given last sample ≡ None → not_units given sample ≡ None → refusal given last sample ≡ None
+no_refusal given last sample e f = both_none (time_refusal given last sample) (not_units given sample) e f
 
 -- one more sample that can stand behind the others
 pub follow_more : (scale : ℕ) (last : Option LastSample) (xs : List Stored) (s : Stored) → AllFollow scale last xs → Follows scale (last_from last xs) s → AllFollow scale last (xs ++ s ∷ [])

@@ -1,5 +1,5 @@
 -- What the crates above cite: facts that src/laws.rt states, by name.
-pub use Rattle.sf_gather.proofs.Accepted.{follow_append, append_follows, last_from-append}
+pub use Rattle.sf_gather.proofs.Accepted.{follow_append, append_follows, last_from-append, refusal_tells}
 pub use Rattle.sf_gather.proofs.ProperLists.{chunks_joined}
 pub use Rattle.sf_gather.proofs.Tails.{proper_extends}
 

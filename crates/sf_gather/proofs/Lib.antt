@@ -3,6 +3,7 @@ pub mod Fronts
 pub mod Growing
 pub mod Plain
 pub mod ProperLists
+pub mod Sizes
 pub mod Standing
 pub mod Tails
 pub mod GatherLaws

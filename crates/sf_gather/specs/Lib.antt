@@ -3,3 +3,4 @@ pub mod Chunks
 pub mod Gathered
 pub mod Proper
 pub mod Sound
+pub mod inner

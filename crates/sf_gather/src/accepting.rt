@@ -1,10 +1,16 @@
+//! Which samples are accepted, and the times of those.
+
 ghost use Rattle.std.specs.Prelude.{◌≡◌, ◌≤◌, ◌+◌, ◌^◌, [], ◌∷◌, Some, None, IfOk, OnOk};
 ghost use Rattle.std.specs.Option.{ForSome};
 ghost use Rattle.std.specs.Result.{result_err};
-ghost use Rattle.sf_gather.specs.Accepting.{is_offset, refusal, tick_at, times_of, too_large, before_start, falls, gap_too_long, first_fault};
+ghost use Rattle.sf_gather.specs.declared.accepting.SampleFault.TheVariants.{NoMemory};
+ghost use Rattle.sf_gather.specs.inner.Storing.{units_fault};
+ghost use Rattle.sf_gather.specs.Accepting.{is_offset, time_refusal, tick_at, times_of, too_large, before_start, falls, gap_too_long, first_fault};
 
 use super::given::{Given, LastSample};
+use sf_avc::NalFault;
 use sf_tick::{Sample, to_tick};
+use std::alloc::AllocError;
 
 /// The greatest time that is accepted, in microseconds.
 const GREATEST_US: u64 = 1 << 48;
@@ -22,8 +28,29 @@ pub enum SampleFault {
     GapTooLong,
     /// From its decode tick to its composition tick it isn't a signed number of 32 bits.
     OffsetTooLarge,
+    /// The payload of video isn't a list of NAL units.
+    Nal(NalFault),
     /// There is no memory.
     NoMemory,
+}
+
+impl From<AllocError> for SampleFault {
+    ghost from_gives = { λ _ fault. fault ≡ NoMemory };
+
+    fn from(_error: AllocError) -> SampleFault {
+        SampleFault::NoMemory
+    }
+}
+
+impl From<NalFault> for SampleFault {
+    ghost from_gives = { λ fault refused. refused ≡ units_fault fault };
+
+    fn from(fault: NalFault) -> SampleFault {
+        match fault {
+            NalFault::NoMemory => SampleFault::NoMemory,
+            refused => SampleFault::Nal(refused),
+        }
+    }
 }
 
 /// The times of a sample that is accepted, counted from the start.
@@ -94,7 +121,7 @@ fn fault_behind(
     }
 }
 
-/// The times of a sample, or the first rule by which it is refused behind the last accepted one.
+/// The times of a sample, or the first rule of times by which it is refused after the last accepted one.
 pub(crate) fn judge(
     given: &Given,
     last: &Option<LastSample>,
@@ -102,7 +129,7 @@ pub(crate) fn judge(
 ) -> Result<Times, SampleFault>
     requires scale { 1 ≤ given.now.scale }
     requires last { ForSome last.now (λ l. l.dts_us + given.now.options.start_us ≤ 2 ^ 48) }
-    ensures refused { result_err result ≡ refusal given.now last.now sample.now }
+    ensures refused { result_err result ≡ time_refusal given.now last.now sample.now }
     ensures times { IfOk result (λ times. times ≡ times_of given.now sample.now) }
     ensures small { OnOk result (sample.now.dts_us ≤ 2 ^ 48) }
 {

@@ -1,13 +1,17 @@
+//! The gatherer of one track's samples.
+
 ghost use Rattle.std.specs.Prelude.{◌≡◌, ◌≤◌, ◌<◌, ◌+◌, ◌-◌, ◌^◌, List, [], ◌∷◌, ◌++◌, length, true, false, Some, None, Ok, Err, IfSome, IfNone, IfOk, IfErr, OnOk, OnErr, is_some, if◌then◌else◌};
 ghost use Rattle.std.specs.Option.{option_to_list};
 ghost use Rattle.sf_tick.specs.declared.types.Stored.{Stored};
-ghost use Rattle.sf_gather.specs.Accepting.{kept_of, refusal, stored_of, times_of};
+ghost use Rattle.sf_gather.specs.Accepting.{RefusedBy, kept_of, not_units, refusal, stored_of, time_refusal, times_of};
 ghost use Rattle.sf_gather.specs.Chunks.{belongs, chunk_of, chunks, closed, marked};
 ghost use Rattle.sf_gather.specs.Proper.{Proper};
 ghost use Rattle.sf_gather.specs.Gathered.{AfterSample, Stands, begun, grown};
 
 use super::accepting::{SampleFault, Times, judge};
 use super::given::{Given, LastSample, Options};
+use super::storing::prefixed_units;
+use sf_list::Bytes;
 use sf_tick::{Chunk, Kind, Sample, Samples, Stored};
 use std::alloc::Global;
 use std::marker::Model;
@@ -40,9 +44,8 @@ impl Model for Gather {
 }
 
 impl Gather {
-    /// A gatherer without samples. So far the kind is sound.
+    /// A gatherer without samples.
     pub fn new(alloc: Global, track: u32, kind: Kind, scale: u32, options: Options) -> Gather
-        requires kind { kind ≡ Kind.Aac }
         requires scale { 1 ≤ scale }
         ensures given { result.given ≡ record { track = track; kind = kind; scale = scale; options = options } }
         ensures chunk { result.chunk ≡ chunk_of result.given 0 false [] }
@@ -75,8 +78,9 @@ impl Gather {
         requires some { 1 ≤ length sample.bytes }
         requires size { length sample.bytes ≤ 16777216 }
         requires number { self.old.chunk.number < 2 ^ 64 - 1 }
-        ensures refused { IfSome (refusal self.old.given self.old.last sample) (λ fault. result ≡ Err (sample, fault)) }
-        ensures memory { IfErr result (λ e. IfNone (refusal self.old.given self.old.last sample) (e.1 ≡ SampleFault.NoMemory)) }
+        ensures times { IfSome (time_refusal self.old.given self.old.last sample) (λ fault. result ≡ Err (sample, fault)) }
+        ensures refused { IfErr result (λ e. RefusedBy (refusal self.old.given self.old.last sample) e.1) }
+        ensures accepted { OnOk result (refusal self.old.given self.old.last sample ≡ None) }
         ensures back { IfErr result (λ e. e.0 ≡ sample) }
         ensures unchanged { OnErr result (self.new ≡ self.old) }
         ensures given { self.new.given ≡ self.old.given }
@@ -94,10 +98,49 @@ impl Gather {
             Ok(times) => times,
             Err(fault) => return Err((sample, fault)),
         };
+        self.put_sample(sample, &times)
+    }
+
+    // Puts a sample as it is stored. It comes back where it has no stored form, or without memory.
+    fn put_sample(
+        &mut self,
+        sample: Sample,
+        times: &Times,
+    ) -> Result<Option<Chunk>, (Sample, SampleFault)>
+        requires size { length sample.bytes ≤ 16777216 }
+        requires number { self.old.chunk.number < 2 ^ 64 - 1 }
+        requires times { times.now ≡ times_of self.old.given sample }
+        requires time { times.now.dts_us + self.old.given.options.start_us ≤ 2 ^ 48 }
+        ensures ok { IfOk result (λ chunk. AfterSample self.old (stored_of self.old.given sample) self.new chunk) }
+        ensures units { OnOk result (not_units self.old.given sample ≡ None) }
+        ensures err { OnErr result (self.new ≡ self.old) }
+        ensures back { IfErr result (λ e. e.0 ≡ sample) }
+        ensures refused { IfErr result (λ e. RefusedBy (not_units self.old.given sample) e.1) }
+    {
+        match self.given.kind {
+            Kind::Aac => self.put_sound(sample, times),
+            Kind::Avc => self.put_video(sample, times),
+        }
+    }
+
+    // Puts a sample of sound, whose payload is stored as it is. Without memory it comes back.
+    fn put_sound(
+        &mut self,
+        sample: Sample,
+        times: &Times,
+    ) -> Result<Option<Chunk>, (Sample, SampleFault)>
+        requires kind { self.old.given.kind ≡ Kind.Aac }
+        requires size { length sample.bytes ≤ 16777216 }
+        requires number { self.old.chunk.number < 2 ^ 64 - 1 }
+        requires times { times.now ≡ times_of self.old.given sample }
+        requires time { times.now.dts_us + self.old.given.options.start_us ≤ 2 ^ 48 }
+        ensures ok { IfOk result (λ chunk. AfterSample self.old (stored_of self.old.given sample) self.new chunk) }
+        ensures err { OnErr result (self.new ≡ self.old) }
+        ensures back { IfErr result (λ e. e ≡ (sample, SampleFault.NoMemory)) }
+    {
         let dts_us = sample.dts_us;
         let pts_us = sample.pts_us;
-        let stored = stored(&self.given, sample, &times);
-        match self.put(stored) {
+        match self.put(stored(times, sample.sync, sample.bytes)) {
             Ok(chunk) => Ok(chunk),
             Err(stored) => {
                 let sample = Sample {
@@ -111,9 +154,37 @@ impl Gather {
         }
     }
 
+    // Puts a sample of video, whose units are stored after their lengths. It comes back where its
+    // payload isn't a list of units, or without memory.
+    fn put_video(
+        &mut self,
+        sample: Sample,
+        times: &Times,
+    ) -> Result<Option<Chunk>, (Sample, SampleFault)>
+        requires kind { self.old.given.kind ≡ Kind.Avc }
+        requires size { length sample.bytes ≤ 16777216 }
+        requires number { self.old.chunk.number < 2 ^ 64 - 1 }
+        requires times { times.now ≡ times_of self.old.given sample }
+        requires time { times.now.dts_us + self.old.given.options.start_us ≤ 2 ^ 48 }
+        ensures ok { IfOk result (λ chunk. AfterSample self.old (stored_of self.old.given sample) self.new chunk) }
+        ensures units { OnOk result (not_units self.old.given sample ≡ None) }
+        ensures err { OnErr result (self.new ≡ self.old) }
+        ensures back { IfErr result (λ e. e.0 ≡ sample) }
+        ensures refused { IfErr result (λ e. RefusedBy (not_units self.old.given sample) e.1) }
+    {
+        let bytes = match prefixed_units(self.alloc, sample.bytes.as_slice()) {
+            Ok(bytes) => bytes,
+            Err(refused) => return Err((sample, refused)),
+        };
+        match self.put(stored(times, sample.sync, bytes)) {
+            Ok(chunk) => Ok(chunk),
+            Err(_stored) => Err((sample, SampleFault::NoMemory)),
+        }
+    }
+
     // Puts a sample into the chunk so far, or into the next one. Without memory it comes back.
     fn put(&mut self, sample: Stored) -> Result<Option<Chunk>, Stored>
-        requires size { length sample.bytes ≤ 16777216 }
+        requires size { length sample.bytes ≤ 2 ^ 25 }
         requires number { self.old.chunk.number < 2 ^ 64 - 1 }
         requires time { sample.dts_us + self.old.given.options.start_us ≤ 2 ^ 48 }
         ensures ok { IfOk result (λ chunk. AfterSample self.old sample self.new chunk) }
@@ -145,7 +216,7 @@ impl Gather {
 
     // Puts a sample at the end of the chunk.
     fn grow(&mut self, sample: Stored) -> Result<(), Stored>
-        requires size { length sample.bytes ≤ 16777216 }
+        requires size { length sample.bytes ≤ 2 ^ 25 }
         requires belongs { belongs self.old.given self.old.chunk.samples sample ≡ true }
         requires time { sample.dts_us + self.old.given.options.start_us ≤ 2 ^ 48 }
         ensures ok { OnOk result (self.new ≡ grown self.old sample) }
@@ -170,7 +241,7 @@ impl Gather {
 
     // Begins the next chunk with a sample. The chunk so far is handed out.
     fn begin_next(&mut self, sample: Stored) -> Result<Chunk, Stored>
-        requires size { length sample.bytes ≤ 16777216 }
+        requires size { length sample.bytes ≤ 2 ^ 25 }
         requires number { self.old.chunk.number < 2 ^ 64 - 1 }
         requires time { sample.dts_us + self.old.given.options.start_us ≤ 2 ^ 48 }
         ensures chunk { IfOk result (λ chunk. chunk ≡ self.old.chunk) }
@@ -219,16 +290,15 @@ fn last_sample(sample: &Stored) -> LastSample
     }
 }
 
-// A sample as it is stored.
-fn stored(given: &Given, sample: Sample, times: &Times) -> Stored
-    requires { times.now ≡ times_of given.now sample }
-    ensures { result ≡ stored_of given.now sample }
+// A sample as it is stored, with these bytes.
+fn stored(times: &Times, sync: bool, bytes: Bytes) -> Stored
+    ensures { result ≡ record { dts_us = times.now.dts_us; decode = times.now.decode; compose = times.now.compose; sync = sync; bytes = bytes } }
 {
     Stored {
         dts_us: times.dts_us,
         decode: times.decode,
         compose: times.compose,
-        sync: sample.sync,
-        bytes: sample.bytes,
+        sync,
+        bytes,
     }
 }

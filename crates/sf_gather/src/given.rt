@@ -1,3 +1,5 @@
+//! What a gatherer is given.
+
 use sf_tick::Kind;
 
 /// How samples are timed and put into chunks.

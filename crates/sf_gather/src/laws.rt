@@ -1,13 +1,13 @@
 //! What holds of samples and chunks, over lists alone. The crates above build on these laws.
 
-ghost use Rattle.std.specs.Prelude.{◌≡◌, ℕ, ◌+◌, true, false, Option, None, List, [], ◌∷◌, ◌++◌, length, IsSome};
+ghost use Rattle.std.specs.Prelude.{◌≡◌, ℕ, ◌+◌, true, false, Option, None, List, [], ◌∷◌, ◌++◌, length, IfSome, IsSome};
 ghost use Rattle.sf_tick.specs.Samples.{samples_of};
 ghost use Rattle.sf_tick.specs.declared.types.Stored.{Stored};
 ghost use Rattle.sf_tick.specs.declared.types.Chunk.{Chunk};
 ghost use Rattle.std.specs.List.{AllByRecursion};
 ghost use Rattle.sf_tick.specs.declared.types.Sample.{Sample};
 ghost use Rattle.sf_gather.specs.declared.given.LastSample.{LastSample};
-ghost use Rattle.sf_gather.specs.Accepting.{IsSized, last_from, last_of, plain, refusal, stored_of};
+ghost use Rattle.sf_gather.specs.Accepting.{IsOfSample, IsSized, last_from, last_of, plain, refusal, stored_of};
 ghost use Rattle.sf_gather.specs.Chunks.{belongs, chunk_of, chunks, chunks_from, closed, front};
 ghost use Rattle.sf_gather.specs.Proper.{AllFollow, Extends, Proper, tail_of};
 
@@ -76,4 +76,10 @@ pub fn following_samples(scale: u32)
     ensures together { (last : Option LastSample) (xs ys : List Stored) → AllFollow scale last xs → AllFollow scale (last_from last xs) ys
         → AllFollow scale last (xs ++ ys) }
     ensures last { (last : Option LastSample) (xs ys : List Stored) → last_from last (xs ++ ys) ≡ last_from (last_from last xs) ys }
+{}
+
+/// A law: a sample is refused by a rule, and never for want of memory.
+#[tactic(auto, using(crate::proofs::GatherLaws::refusal_tells))]
+pub fn refusals_tell_of_samples(given: Given)
+    ensures { (last : Option LastSample) (sample : Sample) → IfSome (refusal given last sample) IsOfSample }
 {}

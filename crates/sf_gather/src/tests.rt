@@ -1,3 +1,5 @@
+//! Tests of the gatherer.
+
 ghost use Rattle.std.specs.Prelude.{◌≡◌, ◌≤◌, ◌<◌, ◌+◌, ◌-◌, ◌^◌, length, IfOk};
 
 use super::*;
@@ -9,6 +11,7 @@ use std::test::Fail;
 mod closing;
 mod refusing;
 mod timing;
+mod video;
 
 /// A sample of so many bytes, with its two times in microseconds.
 fn sample(alloc: Global, times: (u64, u64), size: usize) -> Result<Sample, AllocError>

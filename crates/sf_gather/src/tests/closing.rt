@@ -1,3 +1,5 @@
+//! Where chunks close, and what they hold.
+
 ghost use Rattle.std.specs.Prelude.{◌≤◌};
 
 use super::*;

@@ -1,3 +1,5 @@
+//! Which samples are refused for their times.
+
 use super::*;
 
 const LATEST: u64 = 1 << 48;

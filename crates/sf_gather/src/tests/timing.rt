@@ -1,3 +1,5 @@
+//! The ticks of samples.
+
 ghost use Rattle.std.specs.Prelude.{◌≤◌};
 
 use super::*;
