@@ -1,0 +1,16 @@
+pub mod Examples
+pub mod Lists
+pub mod EditsBack
+pub mod Parts
+pub mod HeadsBack
+pub mod Timing
+pub mod TrackRows
+pub mod TracksBack
+pub mod Starts
+pub mod Payload
+pub mod EntriesBack
+pub mod GrownRows
+pub mod GrownTracks
+pub mod FileBack
+pub mod ContentBack
+pub mod LayoutLaws
