@@ -1,0 +1,16 @@
+pub mod Files
+pub mod Lists
+pub mod Switching
+pub mod Steps
+pub mod Dealt
+pub mod Handed
+pub mod Within
+pub mod Shown
+pub mod Samples
+pub mod Writables
+pub mod ReadBack
+pub mod WriteOrder
+pub mod Proper
+pub mod Order
+pub mod SeriesLaws
+pub mod Examples

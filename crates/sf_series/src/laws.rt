@@ -1,0 +1,143 @@
+//! What holds of a series of files, over lists alone. The crates above build on these laws.
+
+ghost use Rattle.std.specs.Prelude.{drop, slice_get, ◌≡◌, ℕ, ◌<◌, Bool, true, false, List, [], ◌∷◌, ◌++◌, length, map, Some, None};
+ghost use Rattle.std.specs.List.{AllByRecursion};
+ghost use Rattle.sf_tick.specs.declared.types.Chunk.{Chunk};
+ghost use Rattle.sf_entry.specs.declared.track_setup.TrackSetup.{TrackSetup};
+ghost use Rattle.sf_meaning.specs.Joined.{joined};
+ghost use Rattle.sf_meaning.specs.Layout.{held_as};
+ghost use Rattle.sf_layout.specs.Layout.{layout, samples_of};
+ghost use Rattle.sf_layout.specs.Writable.{Writable};
+ghost use Rattle.sf_interleave.specs.Waiting.{OfTheirTracks, earliest_front, list_of, without_front};
+ghost use Rattle.sf_series.specs.declared.limits.Limits.{Limits};
+ghost use Rattle.sf_series.specs.declared.limits.LimitShown.{LimitShown};
+ghost use Rattle.sf_series.specs.Files.{chunks_of_track, flat, into_next, into_open, OnlyOpenEmpty};
+ghost use Rattle.sf_series.specs.Switching.{Into, Limit, Next, Put, Shows, count_of, files_after, put, switched};
+ghost use Rattle.sf_series.specs.Core.{State, after, failed, fresh, hand, handed_in, write};
+ghost use Rattle.sf_series.specs.Core as core;
+ghost use Rattle.sf_series.specs.Kept.{Kept};
+ghost use Rattle.sf_series.specs.Within.{Within};
+ghost use Rattle.sf_series.specs.Order.{InOrder, Rises, in_order};
+ghost use Rattle.sf_gather.specs.Proper.{Proper};
+ghost use Rattle.sf_series.specs.Fitting.{AreProper, CanHand, Fits};
+ghost use Rattle.sf_series.specs.Dealt.{HasBytes, dealt, order_of, write_order};
+
+/// A law: whatever is handed and written, in whatever order, for each track the chunks in files and then those that wait
+/// are those that were handed. While nothing ended these are all chunks of the steps but for empty ones, else a front of
+/// them. Where none waits, all that were handed stand in files. A write that fails leaves the chunks in files as they were.
+#[tactic(auto, using(crate::proofs::SeriesLaws::there_laws))]
+pub fn chunks_are_kept()
+    ensures there { (limits : Limits) (setups : List TrackSetup) (tracks : ℕ) (steps : List core.Step) (track : ℕ)
+        → chunks_of_track track (after limits setups (fresh tracks) steps).files ++ list_of (after limits setups (fresh tracks) steps).pending track
+        ≡ list_of (after limits setups (fresh tracks) steps).handed track }
+    ensures all { (limits : Limits) (setups : List TrackSetup) (tracks track : ℕ) (steps : List core.Step) → track < tracks → (after limits setups (fresh tracks) steps).ended ≡ false
+        → list_of (after limits setups (fresh tracks) steps).handed track ≡ handed_in track steps }
+    ensures front { (limits : Limits) (setups : List TrackSetup) (tracks track : ℕ) (steps : List core.Step) → track < tracks
+        → (rest : List Chunk) × (handed_in track steps ≡ list_of (after limits setups (fresh tracks) steps).handed track ++ rest) }
+    ensures idle { (limits : Limits) (setups : List TrackSetup) (state : State) (track : ℕ) → Kept limits setups state → earliest_front state.pending ≡ None
+        → chunks_of_track track state.files ≡ list_of state.handed track }
+    ensures tracks { (limits : Limits) (setups : List TrackSetup) (tracks : ℕ) (steps : List core.Step) → length (after limits setups (fresh tracks) steps).handed ≡ tracks }
+    ensures failed { (closed : Bool) (state : State) (track : ℕ) → chunks_of_track track (failed closed state).files ≡ chunks_of_track track state.files }
+{}
+
+/// A law: what holds of the fresh core holds after each chunk that is handed and each write, and so after any steps.
+pub fn each_step_keeps()
+    ensures fresh { (limits : Limits) (setups : List TrackSetup) (tracks : ℕ) → Kept limits setups (fresh tracks) }
+    ensures hand { (limits : Limits) (setups : List TrackSetup) (state : State) (chunk : Chunk) → Kept limits setups state → Kept limits setups (hand state chunk) }
+    ensures write { (limits : Limits) (setups : List TrackSetup) (state : State) → Kept limits setups state → Kept limits setups (write limits setups state) }
+    ensures steps { (limits : Limits) (setups : List TrackSetup) (tracks : ℕ) (steps : List core.Step) → Kept limits setups (after limits setups (fresh tracks) steps) }
+{}
+
+/// A law: a write moves the earliest chunk that waits to the end of the open file or into a new one, or a limit is met;
+/// where none waits it changes nothing. That chunk is the next one, after those in files, that was handed of its track.
+#[tactic(auto, using(crate::proofs::SeriesLaws::write_laws))]
+pub fn earliest_is_written()
+    ensures into { (limits : Limits) (setups : List TrackSetup) (state : State) (chunk : Chunk) → earliest_front state.pending ≡ Some chunk → put limits setups state.files chunk ≡ Into
+        → write limits setups state ≡ record state { pending = without_front state.pending chunk.track; files = into_open state.files chunk } }
+    ensures next { (limits : Limits) (setups : List TrackSetup) (state : State) (chunk : Chunk) → earliest_front state.pending ≡ Some chunk → put limits setups state.files chunk ≡ Next
+        → write limits setups state ≡ record state { pending = without_front state.pending chunk.track; files = into_next state.files chunk } }
+    ensures limit { (limits : Limits) (setups : List TrackSetup) (state : State) (chunk : Chunk) (shown : LimitShown) → earliest_front state.pending ≡ Some chunk
+        → put limits setups state.files chunk ≡ Limit shown → write limits setups state ≡ record state { ended = true } }
+    ensures idle { (limits : Limits) (setups : List TrackSetup) (state : State) → earliest_front state.pending ≡ None → write limits setups state ≡ state }
+    ensures stands { (limits : Limits) (setups : List TrackSetup) (state : State) (chunk : Chunk) → Kept limits setups state → earliest_front state.pending ≡ Some chunk
+        → list_of state.handed chunk.track ≡ chunks_of_track chunk.track state.files ++ chunk ∷ drop 1 (list_of state.pending chunk.track) }
+    ensures end { (files : List (List Chunk)) (chunk : Chunk) → flat (into_open files chunk) ≡ flat files ++ chunk ∷ [] }
+    ensures begin { (files : List (List Chunk)) (chunk : Chunk) → flat (into_next files chunk) ≡ flat files ++ chunk ∷ [] }
+{}
+
+/// A law: the files are those of their chunks put one after the other in the order in which they were written, without a
+/// limit, whichever order that was; and where a limit came, the next chunk meets it, and its track is shown with the number
+/// of its samples in files.
+#[tactic(auto, using(crate::proofs::SeriesLaws::order_laws))]
+pub fn files_are_switched()
+    ensures files { (limits : Limits) (setups : List TrackSetup) (tracks : ℕ) (steps : List core.Step)
+        → switched limits setups (flat (after limits setups (fresh tracks) steps).files) ≡ record { files = (after limits setups (fresh tracks) steps).files; limit = None } }
+    ensures limit { (limits : Limits) (setups : List TrackSetup) (tracks : ℕ) (steps : List core.Step) → (after limits setups (fresh tracks) steps).ended ≡ true
+        → (chunk : Chunk) × (shown : LimitShown) × (earliest_front (after limits setups (fresh tracks) steps).pending ≡ Some chunk)
+        × (put limits setups (after limits setups (fresh tracks) steps).files chunk ≡ Limit shown) }
+    ensures shown { (limits : Limits) (setups : List TrackSetup) (files : List (List Chunk)) (chunk : Chunk) (shown : LimitShown) → put limits setups files chunk ≡ Limit shown
+        → Shows shown chunk.track (count_of chunk.track (flat files)) }
+    ensures ends { (limits : Limits) (setups : List TrackSetup) (files : List (List Chunk)) (order rest : List Chunk) (chunk : Chunk) (shown : LimitShown)
+        → switched limits setups order ≡ record { files = files; limit = None } → put limits setups files chunk ≡ Limit shown
+        → switched limits setups (order ++ chunk ∷ rest) ≡ record { files = files; limit = Some shown } }
+    ensures some { (limits : Limits) (setups : List TrackSetup) (tracks : ℕ) (steps : List core.Step) → OnlyOpenEmpty (after limits setups (fresh tracks) steps).files }
+{}
+
+/// A law: the tracks of the chunks of files, in the order in which they were written, give the files back, from lists that
+/// begin with the chunks of each track; so they do from the lists of what was handed.
+#[tactic(auto, using(crate::proofs::SeriesLaws::dealt_laws))]
+pub fn files_are_dealt()
+    ensures back { (files lists : List (List Chunk)) (rest : ℕ → List Chunk) → ((track : ℕ) → list_of lists track ≡ chunks_of_track track files ++ rest track)
+        → dealt (map order_of files) lists ≡ files }
+    ensures core { (limits : Limits) (setups : List TrackSetup) (tracks : ℕ) (steps : List core.Step)
+        → dealt (map order_of (after limits setups (fresh tracks) steps).files) (after limits setups (fresh tracks) steps).handed ≡ (after limits setups (fresh tracks) steps).files }
+{}
+
+/// A law: files of chunks that are put one after the other without a limit pass none, where an empty file doesn't: neither
+/// their bytes, nor those of their movie boxes, nor the samples of any track are too many.
+#[tactic(auto, using(crate::proofs::SeriesLaws::limit_laws))]
+pub fn files_pass_no_limit()
+    ensures files { (limits : Limits) (setups : List TrackSetup) (order : List Chunk) (files : List (List Chunk)) → Within limits setups []
+        → switched limits setups order ≡ record { files = files; limit = None } → AllByRecursion (λ file. Within limits setups file) files }
+    ensures core { (limits : Limits) (setups : List TrackSetup) (tracks : ℕ) (steps : List core.Step) → Within limits setups []
+        → AllByRecursion (λ file. Within limits setups file) (after limits setups (fresh tracks) steps).files }
+    ensures put { (limits : Limits) (setups : List TrackSetup) (files : List (List Chunk)) (chunk : Chunk) (answer : Put) → put limits setups files chunk ≡ answer
+        → AllByRecursion (λ file. Within limits setups file) files → AllByRecursion (λ file. Within limits setups file) (files_after files chunk answer) }
+{}
+
+/// A law: what was handed stays proper with each chunk that can be handed, and after each write.
+pub fn handed_stays_proper()
+    ensures fresh { (setups : List TrackSetup) → AreProper setups (fresh (length setups)) }
+    ensures hand { (setups : List TrackSetup) (state : State) (chunk : Chunk) → AreProper setups state → CanHand setups state chunk → AreProper setups (hand state chunk) }
+    ensures write { (limits : Limits) (setups : List TrackSetup) (state : State) → AreProper setups state → AreProper setups (write limits setups state) }
+{}
+
+/// A law: where each chunk waits that can be next, chunks are written in the order of when they begin, then of their tracks,
+/// then of their numbers. So they are too where the lists that wait have the same first chunks.
+#[tactic(auto, using(crate::proofs::SeriesLaws::earliest_laws))]
+pub fn earliest_first()
+    ensures next { (lists : List (List Chunk)) (chunk : Chunk) → OfTheirTracks 0 lists → earliest_front lists ≡ Some chunk
+        → in_order lists ≡ chunk ∷ in_order (without_front lists chunk.track) }
+    ensures none { (lists : List (List Chunk)) → earliest_front lists ≡ None → in_order lists ≡ [] }
+    ensures order { (lists : List (List Chunk)) → OfTheirTracks 0 lists → ((track : ℕ) → Rises (list_of lists track)) → InOrder lists (in_order lists) }
+    ensures fronts { (lists others : List (List Chunk)) → length lists ≡ length others → ((track : ℕ) → slice_get (list_of lists track) 0 ≡ slice_get (list_of others track) 0)
+        → earliest_front lists ≡ earliest_front others }
+    ensures rises { (track scale : ℕ) (chunks : List Chunk) → Proper track scale chunks → AllByRecursion (λ c. 0 < length c.samples) chunks → Rises chunks }
+{}
+
+/// The law of a recording over lists: what is handed, proper by its setups, and written in whatever order, stands in files
+/// that are read back. Joined in order they hold for each track the samples of its chunks in files, and where none waits
+/// those of all that were handed. Their bytes say which chunk stands where.
+#[tactic(auto, using(crate::proofs::SeriesLaws::read_laws))]
+pub fn files_are_read_back()
+    ensures each { (limits : Limits) (setups : List TrackSetup) (state : State) → Kept limits setups state → Fits limits setups → AreProper setups state
+        → AllByRecursion (λ file. Writable setups file) state.files }
+    ensures joined { (limits : Limits) (setups : List TrackSetup) (state : State) (track : ℕ) → Kept limits setups state → Fits limits setups → AreProper setups state → track < length setups
+        → joined (map (layout setups) state.files) track ≡ Some (map held_as (samples_of (chunks_of_track track state.files))) }
+    ensures whole { (limits : Limits) (setups : List TrackSetup) (state : State) (track : ℕ) → Kept limits setups state → Fits limits setups → AreProper setups state → track < length setups
+        → list_of state.pending track ≡ [] → joined (map (layout setups) state.files) track ≡ Some (map held_as (samples_of (list_of state.handed track))) }
+    ensures dealt { (limits : Limits) (setups : List TrackSetup) (state : State) (lists : List (List Chunk)) (rest : ℕ → List Chunk) → Kept limits setups state → Fits limits setups → AreProper setups state
+        → ((track : ℕ) → list_of lists track ≡ list_of state.handed track ++ rest track) → dealt (map (write_order (length setups)) (map (layout setups) state.files)) lists ≡ state.files }
+    ensures order { (setups : List TrackSetup) (file : List Chunk) → Writable setups file → AllByRecursion HasBytes file → AllByRecursion (λ c. c.track < length setups) file
+        → write_order (length setups) (layout setups file) ≡ order_of file }
+{}
