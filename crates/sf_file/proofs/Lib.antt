@@ -1,6 +1,6 @@
-pub mod Lengths
 pub mod Room
+pub mod Heads
+pub mod OneMore
+pub mod MovieLengths
 pub mod ClosedFile
 pub mod Holdable
-pub mod HoldableGrows
-pub mod Counts

@@ -16,9 +16,13 @@ use Rattle.sf_gather.specs.declared.given.LastSample.{LastSample}
 use Rattle.sf_gather.specs.Accepting.{kept_of, last_from}
 use Rattle.sf_gather.specs.Proper.{Follows, AllFollow}
 use Rattle.sf_gather.proofs.GatherLaws.{last_from-append}
-use Rattle.sf_tables.specs.Rows.{with_chunk, last_tick, last_in_rows, HasRoom, AllHaveRoom, Addable}
-use Rattle.sf_file.specs.Movie.{microseconds}
-use Rattle.sf_file.specs.Open.{last_ticks, IsTimed, OpenFile, Appendable, Sound}
+use Rattle.sf_tables.specs.Rows.{TrackTables, first_dts_with, with_chunk, last_tick, last_in_rows, HasRoom, AllHaveRoom, Addable}
+use Rattle.sf_entry.specs.declared.track_setup.TrackSetup.{TrackSetup}
+use Rattle.sf_layout.specs.Headers.{microseconds}
+use Rattle.sf_layout.specs.Layout.{lead_of}
+use Rattle.sf_file.specs.Open.{HeldTrack, Joins}
+use Rattle.sf_file.specs.inner.Tracks.{KeptTrack}
+use Rattle.sf_file.specs.inner.Sound.{last_ticks, IsTimed, SoundTrack}
 
 abbrev pub decodes : List Timed → List ℕ
 decodes ss = map (λ s. s.decode) ss
@@ -97,13 +101,13 @@ duration_of_list [] r = omega arith
 duration_of_list (s ∷ ss) r = omega (arith, sum_behind 0 s ss (omega arith) r.1, last_or_tick s.decode (decodes ss))
 
 -- a track whose last sample is timed as it is isn't too long in microseconds
-ticks_short : (scale t d : ℕ) → 1 ≤ scale → t ≤ 2 ^ 48 → d ≤ tick t scale + 2 ^ 32 → microseconds scale d < 2 ^ 63
+ticks_short : (scale t d : ℕ) → 1 ≤ scale → t ≤ 2 ^ 48 → d ≤ tick t scale + 2 ^ 32 → microseconds scale d < 2 ^ 62
 ticks_short scale t d some le dle =
     let f : t * scale ≤ 2 ^ 48 * scale = mul-le-mul_right scale le in
     (div-lt_iff_lt-mul some).1 (omega (arith, f, dle, some))
 
 pub rows_short : (scale : ℕ) (last : Option LastSample) (rows : List Row) → 1 ≤ scale → AllHaveRoom None (timed_of rows) → last_ticks last ≡ last_in_rows rows
-    → IfSome last (λ l. IsTimed scale l) → microseconds scale (duration_in_rows rows) < 2 ^ 63
+    → IfSome last (λ l. IsTimed scale l) → microseconds scale (duration_in_rows rows) < 2 ^ 62
 rows_short scale None rows some r e t =
     let d : duration_in_rows rows ≤ tick_or_0 (last_in_rows rows) + 2 ^ 32 = duration_of_list (timed_of rows) r in
     let z : tick_or_0 (last_in_rows rows) ≡ 0 = sym (ap tick_or_0 e) in
@@ -114,7 +118,7 @@ rows_short scale (Some l) rows some r e t =
     let decode : l.decode ≡ tick l.dts_us scale = t.decode in
     ticks_short scale l.dts_us (duration_in_rows rows) some t.early (omega (arith, d, z, decode))
 
-timed_of-append : (rows : List Row) (place : ℕ) (chunk : Chunk) → timed_of (with_chunk rows place chunk) ≡ timed_of rows ++ map timed chunk.samples
+pub timed_of-append : (rows : List Row) (place : ℕ) (chunk : Chunk) → timed_of (with_chunk rows place chunk) ≡ timed_of rows ++ map timed chunk.samples
 timed_of-append rows place chunk =
     flat_map-append (λ (r : Row). r.samples) rows (row_at place chunk ∷ []) ∙ ap (λ (ss : List Timed). timed_of rows ++ ss) (append-nil (map timed chunk.samples))
 
@@ -122,50 +126,82 @@ ticks_of-append : (rows : List Row) (place : ℕ) (chunk : Chunk) → ticks_of (
 ticks_of-append rows place chunk =
     ap (λ (ss : List Timed). decodes ss) (timed_of-append rows place chunk) ∙ map-append (λ (s : Timed). s.decode) (timed_of rows) (map timed chunk.samples)
 
--- What holds of the rows of a file with one more chunk.
-pub record Grows (scale : ℕ) (rows : List Row) (last : Option LastSample) (place : ℕ) (chunk : Chunk) : Type 0 where
+-- the first sample of samples that follow is early
+first_in_time : (scale : ℕ) (last : Option LastSample) (first : Option ℕ) (ss : List Stored) → IfSome first (λ us. us ≤ 2 ^ 48) → AllFollow scale last ss
+    → IfSome (first_dts_with first ss) (λ us. us ≤ 2 ^ 48)
+first_in_time scale last None [] early f = tt
+first_in_time scale last None (s ∷ ss) early f = f.0.time
+first_in_time scale last (Some us) ss early f = early
+
+-- a track of the file begins early
+pub lead_short : (start_us : ℕ) (first : Option ℕ) → IfSome first (λ us. us ≤ 2 ^ 48) → lead_of start_us first ≤ 2 ^ 48
+lead_short start_us None early = omega arith
+lead_short start_us (Some us) early = omega (arith, early)
+
+-- What holds of a track with one more chunk.
+pub record Grows (setup : TrackSetup) (first : Option ℕ) (rows : List Row) (last : Option LastSample) (place : ℕ) (chunk : Chunk) : Type 0 where
   pub addable : Addable rows chunk
+  pub early : IfSome (first_dts_with first chunk.samples) (λ us. us ≤ 2 ^ 48)
   pub room : AllHaveRoom None (timed_of (with_chunk rows place chunk))
   pub behind : last_ticks (last_from last chunk.samples) ≡ last_in_rows (with_chunk rows place chunk)
-  pub timed : IfSome (last_from last chunk.samples) (λ l. IsTimed scale l)
+  pub timed : IfSome (last_from last chunk.samples) (λ l. IsTimed setup.scale l)
   pub count : length (timed_of (with_chunk rows place chunk)) ≡ length (timed_of rows) + length chunk.samples
-  pub short : microseconds scale (duration_in_rows (with_chunk rows place chunk)) < 2 ^ 63
-  pub bytes : length (stored_bytes chunk.samples) ≤ 2 ^ 25 * length chunk.samples
-  pub each : AllByRecursion (λ s. length s.bytes ≤ 2 ^ 25) chunk.samples
+  pub short : microseconds setup.scale (duration_in_rows (with_chunk rows place chunk)) < 2 ^ 62
 
-pub grows : (file : OpenFile) (chunk : Chunk) (size : ℕ) → Sound file.scale file.entry file.tables file.last file.end size → Appendable file chunk
-    → Grows file.scale file.tables.rows file.last file.end chunk
-grows file chunk size s a =
-    let rows : List Row = file.tables.rows in
-    let more : AllHaveRoom (last_ticks file.last) (map timed chunk.samples) = follow_room file.scale file.last chunk.samples s.timed a.follow in
+pub grows : (t : HeldTrack) (place : ℕ) (chunk : Chunk) (tables : TrackTables) → tables.rows ≡ t.track.rows → tables.first_dts ≡ t.track.first → SoundTrack t.track.setup tables t.last → Joins t chunk
+    → Grows t.track.setup t.track.first t.track.rows t.last place chunk
+grows t place chunk tables same_rows same_first s j =
+    let scale : ℕ = t.track.setup.scale in
+    let rows : List Row = t.track.rows in
+    let more : AllHaveRoom (last_ticks t.last) (map timed chunk.samples) = follow_room scale t.last chunk.samples s.timed j.follow in
+    let ends : last_ticks t.last ≡ last_in_rows rows = s.behind ∙ ap last_in_rows same_rows in
     let behind_rows : AllHaveRoom (last_in_rows rows) (map timed chunk.samples) =
-    subst (λ (t : Option ℕ). AllHaveRoom t (map timed chunk.samples)) s.behind more in
-    let room : AllHaveRoom None (timed_of (with_chunk rows file.end chunk)) =
-    subst (λ (ss : List Timed). AllHaveRoom None ss) (sym (timed_of-append rows file.end chunk)) (room_append None (timed_of rows) (map timed chunk.samples) s.room behind_rows) in
-    let behind : last_ticks (last_from file.last chunk.samples) ≡ last_in_rows (with_chunk rows file.end chunk) =
-    follow_last file.last chunk.samples
-    ∙ ap (λ (t : Option ℕ). last_tick t (decodes (map timed chunk.samples))) s.behind
+    subst (λ (u : Option ℕ). AllHaveRoom u (map timed chunk.samples)) ends more in
+    let before : AllHaveRoom None (timed_of rows) = subst (λ (rs : List Row). AllHaveRoom None (timed_of rs)) same_rows s.room in
+    let room : AllHaveRoom None (timed_of (with_chunk rows place chunk)) =
+    subst (λ (ss : List Timed). AllHaveRoom None ss) (sym (timed_of-append rows place chunk)) (room_append None (timed_of rows) (map timed chunk.samples) before behind_rows) in
+    let behind : last_ticks (last_from t.last chunk.samples) ≡ last_in_rows (with_chunk rows place chunk) =
+    follow_last t.last chunk.samples
+    ∙ ap (λ (u : Option ℕ). last_tick u (decodes (map timed chunk.samples))) ends
     ∙ sym (last_append None (ticks_of rows) (decodes (map timed chunk.samples)))
-    ∙ sym (ap (λ (ts : List ℕ). last_tick None ts) (ticks_of-append rows file.end chunk)) in
-    let last_timed : IfSome (last_from file.last chunk.samples) (λ l. IsTimed file.scale l) = follow_timed file.scale file.last chunk.samples s.timed a.follow in
-    let each = follow_short file.scale file.last chunk.samples a.follow in
+    ∙ sym (ap (λ (ts : List ℕ). last_tick None ts) (ticks_of-append rows place chunk)) in
+    let last_timed : IfSome (last_from t.last chunk.samples) (λ l. IsTimed scale l) = follow_timed scale t.last chunk.samples s.timed j.follow in
     record {
-      addable = record { some = a.some; room = behind_rows; few = a.few };
+      addable = record { some = j.some; room = behind_rows; few = j.few };
+      early = first_in_time scale t.last t.track.first chunk.samples (subst (λ (f : Option ℕ). IfSome f (λ us. us ≤ 2 ^ 48)) same_first s.first) j.follow;
       room = room;
       behind = behind;
       timed = last_timed;
-      count = ap length (timed_of-append rows file.end chunk) ∙ length-append (timed_of rows) (map timed chunk.samples)
+      count = ap length (timed_of-append rows place chunk) ∙ length-append (timed_of rows) (map timed chunk.samples)
           ∙ ap (λ (n : ℕ). length (timed_of rows) + n) (length-map chunk.samples timed);
-      short = rows_short file.scale (last_from file.last chunk.samples) (with_chunk rows file.end chunk) s.ticks room behind last_timed;
-      bytes = short_sum chunk.samples each;
-      each = each;
+      short = rows_short scale (last_from t.last chunk.samples) (with_chunk rows place chunk) s.ticks room behind last_timed;
     }
 
--- the same of a file as it is seen
-pub grows_seen : {view file : OpenFile} {chunk : Chunk} {size : ℕ} → view ≡ file
-    → Sound view.scale view.entry view.tables view.last view.end size → Appendable file chunk
-    → Grows view.scale view.tables.rows view.last view.end chunk
-grows_seen {view} {file} {chunk} {size} e s a = grows view chunk size s (subst (λ (f : OpenFile). Appendable f chunk) (sym e) a)
+-- a track as it is kept, from its parts
+abbrev pub kept : TrackSetup → TrackTables → Option LastSample → KeptTrack
+kept setup tables last = record { held = record { track = record { setup = setup; first = tables.first_dts; rows = tables.rows }; last = last }; spare = tables.spare }
+
+pub grows_seen : {setup : TrackSetup} {tables : TrackTables} {last : Option LastSample} {seen : KeptTrack} (place : ℕ) (chunk : Chunk) → kept setup tables last ≡ seen → SoundTrack setup tables last → Joins seen.held chunk
+    → Grows setup tables.first_dts tables.rows last place chunk
+grows_seen {setup} {tables} {last} {seen} place chunk e s j =
+    grows (kept setup tables last).held place chunk tables refl refl s (subst (λ (k : KeptTrack). Joins k.held chunk) (sym e) j)
+
+-- a track with one more chunk is sound
+pub sound_more : {setup : TrackSetup} {tables after : TrackTables} {last last_after : Option LastSample} {seen : KeptTrack} (place : ℕ) (chunk : Chunk) → kept setup tables last ≡ seen → SoundTrack setup tables last → Joins seen.held chunk
+    → after.rows ≡ with_chunk tables.rows place chunk → after.first_dts ≡ first_dts_with tables.first_dts chunk.samples → last_after ≡ last_from last chunk.samples
+    → SoundTrack setup after last_after
+sound_more {setup} {tables} {after} {last} {last_after} {seen} place chunk e s j rows first l =
+    let g : Grows setup tables.first_dts tables.rows last place chunk = grows_seen place chunk e s j in
+    let few : length (timed_of tables.rows) + length chunk.samples < 2 ^ 32 = g.addable.few in
+    record {
+      ticks = s.ticks;
+      short = s.short;
+      first = rw first g.early;
+      room = rw rows g.room;
+      behind = rw (rows, l) g.behind;
+      timed = rw l g.timed;
+      few = rw rows (omega (arith, g.count, few));
+    }
 
 pub last_more : (before : Option LastSample) (xs : List Stored) (s : Stored) → last_from before (xs ++ s ∷ []) ≡ Some (kept_of s)
 last_more before xs s = last_from-append before xs (s ∷ [])

@@ -1,3 +1,4 @@
-pub mod Movie
+pub mod FileHead
 pub mod Open
 pub mod Holdable
+pub mod inner

@@ -1,16 +1,16 @@
 //! One written file (ISO/IEC 14496-12): what stands in front of the samples, the samples' bytes chunk
-//! by chunk, and the movie box at the end.
+//! by chunk, each chunk of one of 1 to 64 tracks, and the movie box at the end.
 #![tactic(auto)]
 
-mod containers;
 mod faults;
-mod headers;
 mod laws;
+mod open_track;
 mod out_file;
 mod pieces;
+mod tracks;
 
 pub use faults::FileFault;
-pub use laws::{closed_file_means, early_is_brief, no_chunks, one_more_appended, one_more_chunk};
+pub use laws::{closed_file_means, no_chunks, one_more_appended, one_more_chunk};
 pub use out_file::{Closing, OutFile};
 
 #[cfg(test)]

@@ -4,8 +4,8 @@ ghost use Rattle.std.specs.Prelude.{◌≡◌, ◌+◌, ◌*◌, ◌^◌, ◌≤
 ghost use Rattle.std.specs.List.{AllByRecursion};
 ghost use Rattle.sf_world.specs.Counts.{Rose};
 ghost use Rattle.sf_world.specs.Views.{Gains, GainsPart};
-ghost use Rattle.sf_meaning.specs.Layout.{stored_bytes};
-ghost use Rattle.sf_file.specs.Movie.{file_head};
+ghost use Rattle.sf_layout.specs.Layout.{stored_bytes};
+ghost use Rattle.sf_file.specs.FileHead.{file_head};
 
 use crate::faults::FileFault;
 use sf_list::Bytes;
@@ -19,7 +19,7 @@ use std::alloc::{AllocError, Global};
 const HEAD: [u8; 40] = *b"\0\0\0\x18ftypmp42\0\0\0\0isommp42\0\0\0\x01mdat\0\0\0\0\0\0\0\x10";
 
 /// Those bytes.
-#[tactic(auto, unfolding(crate::specs::Movie::file_head, sf_box::specs::Boxes::box_of, sf_box::specs::Boxes::be32, sf_box::specs::Boxes::be64))]
+#[tactic(auto, unfolding(crate::specs::FileHead::file_head, sf_box::specs::Boxes::box_of, sf_box::specs::Boxes::be32, sf_box::specs::Boxes::be64))]
 pub(crate) fn file_head() -> [u8; 40]
     ensures { result ≡ file_head 16 }
 {

@@ -1,12 +1,15 @@
-ghost use Rattle.std.specs.Prelude.{◌≡◌, ◌+◌, ◌^◌, ◌<◌, ◌≤◌, length, IsTrue, IfSome, Option};
+ghost use Rattle.std.specs.Prelude.{◌≡◌, ◌+◌, ◌*◌, ◌^◌, ◌<◌, ◌≤◌, length, sum_by, IsTrue, IfSome, Option};
+ghost use Rattle.std.specs.List.{AllByRecursion};
 ghost use Rattle.sf_gather.specs.Accepting.{is_offset};
 ghost use Rattle.sf_gather.specs.Proper.{AllFollow, Follows};
-ghost use Rattle.sf_file.specs.Open.{Appendable};
+ghost use Rattle.sf_file.specs.Open.{Appendable, AreSetups, Joins};
 
 use super::*;
+use crate::open_track::OpenTrack;
+use sf_entry::TrackSetup;
 use sf_gather::LastSample;
 use sf_list::Bytes;
-use sf_tick::{Chunk, Samples, Stored, to_tick};
+use sf_tick::{Chunk, Kind, Samples, Stored, to_tick};
 use sf_world::{MemShelf, MemSink, Shelf, Sink};
 use std::alloc::{AllocError, Global};
 use std::test::Fail;
@@ -14,6 +17,7 @@ use std::test::Fail;
 mod bytes;
 mod failures;
 mod read_back;
+mod several;
 mod sizes;
 
 /// The sample entry box of AAC at 48000 Hz with two channels: 87 bytes (ISO/IEC 14496-12, 12.2.3;
@@ -23,6 +27,15 @@ const ENTRY: [u8; 87] = *b"\0\0\0\x57mp4a\0\0\0\0\0\0\0\x01\0\0\0\0\0\0\0\0\
     \0\0\0\x33esds\0\0\0\0\x03\x80\x80\x80\x22\0\0\0\
     \x04\x80\x80\x80\x14\x40\x15\0\0\0\0\0\0\0\0\0\0\0\
     \x05\x80\x80\x80\x02\x11\x90\x06\x80\x80\x80\x01\x02";
+
+/// The sample entry box of video of 640 by 360 pixels: 111 bytes (ISO/IEC 14496-12, 12.1.3;
+/// ISO/IEC 14496-15, 5.4.2.1).
+const VIDEO_ENTRY: [u8; 111] = *b"\0\0\0\x6Favc1\0\0\0\0\0\0\0\x01\
+    \0\0\0\0\0\0\0\0\0\0\0\0\0\0\0\0\x02\x80\x01\x68\
+    \0\x48\0\0\0\x48\0\0\0\0\0\0\0\x01\
+    \0\0\0\0\0\0\0\0\0\0\0\0\0\0\0\0\0\0\0\0\0\0\0\0\0\0\0\0\0\0\0\0\
+    \0\x18\xFF\xFF\
+    \0\0\0\x19avcC\x01\x42\xC0\x1E\xFF\xE1\0\x04\x67\x42\xC0\x1E\x01\0\x02\x68\xCE";
 
 /// The bytes of each sample.
 const SAMPLE: [u8; 4] = [0x21, 0x10, 0x04, 0x60];
@@ -36,7 +49,7 @@ const THREE: [Times; 3] = [(0, 0), (21_333, 1024), (42_667, 2048)];
 /// Why a file of the tests wasn't written.
 #[derive(Clone, Copy, Debug, PartialEq, Eq)]
 enum Stop {
-    /// There is no file, or a chunk doesn't fit behind the others.
+    /// There is no file, or a chunk or the setups don't fit.
     Unfit,
     Fault(FileFault),
 }
@@ -47,8 +60,30 @@ impl From<AllocError> for Stop {
     }
 }
 
-/// A chunk of samples with these times.
-fn chunk(alloc: Global, times: &[Times]) -> Result<Chunk, AllocError> {
+/// A track of sound at so many ticks a second.
+fn sound(alloc: Global, scale: u32) -> Result<TrackSetup, AllocError> {
+    Ok(TrackSetup {
+        kind: Kind::Aac,
+        scale,
+        width: 0,
+        height: 0,
+        entry: Bytes::from_slice(alloc, &ENTRY)?,
+    })
+}
+
+/// A track of video at so many ticks a second.
+fn video(alloc: Global, scale: u32) -> Result<TrackSetup, AllocError> {
+    Ok(TrackSetup {
+        kind: Kind::Avc,
+        scale,
+        width: 640,
+        height: 360,
+        entry: Bytes::from_slice(alloc, &VIDEO_ENTRY)?,
+    })
+}
+
+/// A chunk of a track with samples of these times.
+fn chunk(alloc: Global, track: u32, times: &[Times]) -> Result<Chunk, AllocError> {
     let mut samples = Samples::new(alloc);
     for (dts_us, decode) in times {
         samples.push(Stored {
@@ -59,13 +94,13 @@ fn chunk(alloc: Global, times: &[Times]) -> Result<Chunk, AllocError> {
             bytes: Bytes::from_slice(alloc, &SAMPLE)?,
         })?;
     }
-    Ok(chunk_of(samples))
+    Ok(chunk_of(track, samples))
 }
 
-/// A chunk of these samples.
-fn chunk_of(samples: Samples) -> Chunk {
+/// A chunk of a track with these samples.
+fn chunk_of(track: u32, samples: Samples) -> Chunk {
     Chunk {
-        track: 0,
+        track,
         number: 0,
         first_us: 0,
         samples,
@@ -73,8 +108,8 @@ fn chunk_of(samples: Samples) -> Chunk {
     }
 }
 
-/// Whether a sample is behind the last one, and near enough.
-fn is_behind(last: Option<LastSample>, sample: &Stored) -> bool
+/// Whether a sample is not before the last one, and near enough.
+fn is_after(last: Option<LastSample>, sample: &Stored) -> bool
     ensures rises { IsTrue result → IfSome last (λ l. l.dts_us ≤ sample.now.dts_us) }
     ensures near { IsTrue result → IfSome last (λ l. sample.now.decode < l.decode + 2 ^ 32) }
 {
@@ -93,13 +128,13 @@ fn is_offset(decode: u64, compose: u64) -> bool
     compose.saturating_sub(decode) < 1 << 31 && decode.saturating_sub(compose) <= 1 << 31
 }
 
-/// Whether a sample can stand behind the last one.
+/// Whether a sample can stand after the last one.
 fn follows(scale: u32, last: Option<LastSample>, sample: &Stored) -> bool
     requires { 1 ≤ scale }
     ensures { IsTrue result → Follows scale last sample.now }
 {
     sample.dts_us <= 1 << 48
-        && is_behind(last, sample)
+        && is_after(last, sample)
         && sample.decode == to_tick(sample.dts_us, scale)
         && is_offset(sample.decode, sample.compose)
         && sample.compose <= to_tick(1 << 48, scale)
@@ -107,7 +142,7 @@ fn follows(scale: u32, last: Option<LastSample>, sample: &Stored) -> bool
         && sample.bytes.len() <= 1 << 25
 }
 
-/// Whether all samples can stand behind the last one, one after the other.
+/// Whether all samples can stand after the last one, one after the other.
 fn all_follow(scale: u32, last: Option<LastSample>, samples: &[Stored]) -> bool
     requires { 1 ≤ scale }
     ensures { IsTrue result → AllFollow scale last samples.now }
@@ -122,18 +157,41 @@ fn all_follow(scale: u32, last: Option<LastSample>, samples: &[Stored]) -> bool
     follows(scale, last, first) && all_follow(scale, Some(kept), others)
 }
 
-/// Whether a chunk can be written behind the others.
+/// Whether a chunk can stand after the others of a track.
+fn can_join(track: &OpenTrack, chunk: &Chunk) -> bool
+    ensures { IsTrue result → Joins track.now.held chunk.now }
+{
+    !chunk.samples.is_empty()
+        && all_follow(track.setup.scale, track.last, chunk.samples.as_slice())
+        && track.count().saturating_add(chunk.samples.len() as u64) < 1 << 32
+}
+
+/// Whether a chunk can be written after the others.
 fn is_appendable<S: Sink>(file: &OutFile<S>, chunk: &Chunk) -> bool
     ensures { IsTrue result → Appendable file.now chunk.now }
 {
-    chunk.track == 0
-        && !chunk.samples.is_empty()
-        && all_follow(file.scale, file.last, chunk.samples.as_slice())
-        && file
-            .tables
-            .count()
-            .saturating_add(chunk.samples.len() as u64)
-            < 1 << 32
+    match file.tracks.get(chunk.track as usize) {
+        Some(track) => can_join(track, chunk),
+        None => false,
+    }
+}
+
+/// Whether each setup has ticks and a short sample entry.
+fn all_usable(setups: &[TrackSetup]) -> bool
+    ensures ticks { IsTrue result → AllByRecursion (λ s. 1 ≤ s.scale) setups.now }
+    ensures entries { IsTrue result → sum_by (λ s. length s.entry) setups.now ≤ 2 ^ 20 * length setups.now }
+{
+    let [first, others @ ..] = setups else {
+        return true;
+    };
+    first.scale > 0 && first.entry.len() <= 1 << 20 && all_usable(others)
+}
+
+/// Whether a file can begin with these setups.
+fn are_setups(setups: &[TrackSetup]) -> bool
+    ensures { IsTrue result → AreSetups setups.now }
+{
+    !setups.is_empty() && setups.len() <= 64 && all_usable(setups)
 }
 
 /// Writes a chunk, and gives what the file was told to be with it.
@@ -151,24 +209,45 @@ fn append<S: Sink>(file: &mut OutFile<S>, chunk: &Chunk) -> Result<Closing, Stop
     }
 }
 
-/// A file of no chunk on the shelf, at 48000 ticks a second.
-fn begun(alloc: Global, shelf: &mut MemShelf) -> Result<OutFile<MemSink>, Stop> {
-    let entry = Bytes::from_slice(alloc, &ENTRY)?;
-    let Ok(sink) = shelf.create("file") else {
-        return Err(Stop::Unfit);
-    };
-    match OutFile::begin(alloc, sink, 48_000, entry) {
+/// Begins a file with these setups in a sink, which comes back where it wasn't begun.
+fn begin<S: Sink>(alloc: Global, sink: S, setups: &[TrackSetup]) -> Result<OutFile<S>, (S, Stop)> {
+    if !are_setups(setups) {
+        return Err((sink, Stop::Unfit));
+    }
+    match OutFile::begin(alloc, sink, setups) {
         Ok(file) => Ok(file),
-        Err((_, fault)) => Err(Stop::Fault(fault)),
+        Err((sink, fault)) => Err((sink, Stop::Fault(fault))),
     }
 }
 
-/// Writes chunks of samples with these times, and closes the file where all were written. The sink
-/// comes back with why it wasn't closed.
-fn finish<S: Sink>(alloc: Global, file: OutFile<S>, chunks: &[&[Times]]) -> (S, Result<(), Stop>) {
+/// A file of no chunk on the shelf, with these setups.
+fn begun(
+    alloc: Global,
+    shelf: &mut MemShelf,
+    setups: &[TrackSetup],
+) -> Result<OutFile<MemSink>, Stop> {
+    let Ok(sink) = shelf.create("file") else {
+        return Err(Stop::Unfit);
+    };
+    match begin(alloc, sink, setups) {
+        Ok(file) => Ok(file),
+        Err((_, stop)) => Err(stop),
+    }
+}
+
+/// A chunk that is written: its track, and the times of its samples.
+type Written<'a> = (u32, &'a [Times]);
+
+/// Writes chunks, and closes the file where all were written. The sink comes back with why it wasn't
+/// closed.
+fn finish<S: Sink>(
+    alloc: Global,
+    file: OutFile<S>,
+    chunks: &[Written<'_>],
+) -> (S, Result<(), Stop>) {
     let mut file = file;
-    for times in chunks {
-        let appended = match chunk(alloc, times) {
+    for (track, times) in chunks {
+        let appended = match chunk(alloc, *track, times) {
             Ok(chunk) => append(&mut file, &chunk),
             Err(_) => Err(Stop::Fault(FileFault::NoMemory)),
         };
@@ -182,26 +261,32 @@ fn finish<S: Sink>(alloc: Global, file: OutFile<S>, chunks: &[&[Times]]) -> (S, 
     }
 }
 
-/// Writes a file of chunks of samples with these times, and keeps it on the shelf as far as it was
-/// written.
+/// Writes a file of chunks, and keeps it on the shelf as far as it was written.
 fn write<H: Shelf>(
     alloc: Global,
     shelf: &mut H,
-    scale: u32,
-    chunks: &[&[Times]],
-) -> Result<(), Stop>
-    requires { 1 ≤ scale }
-{
-    let entry = Bytes::from_slice(alloc, &ENTRY)?;
+    setups: &[TrackSetup],
+    chunks: &[Written<'_>],
+) -> Result<(), Stop> {
     let Ok(sink) = shelf.create("file") else {
         return Err(Stop::Unfit);
     };
-    let (sink, ended) = match OutFile::begin(alloc, sink, scale, entry) {
+    let (sink, ended) = match begin(alloc, sink, setups) {
         Ok(file) => finish(alloc, file, chunks),
-        Err((sink, fault)) => (sink, Err(Stop::Fault(fault))),
+        Err((sink, stop)) => (sink, Err(stop)),
     };
     shelf.keep(sink);
     ended
+}
+
+/// What a file of chunks holds once it is closed.
+fn written(alloc: Global, setups: &[TrackSetup], chunks: &[Written<'_>]) -> Result<Bytes, Stop> {
+    let mut shelf = MemShelf::new(alloc, Vec::new(alloc));
+    write(alloc, &mut shelf, setups, chunks)?;
+    match shelf.file(0) {
+        Some(bytes) => Ok(Bytes::from_slice(alloc, bytes)?),
+        None => Err(Stop::Unfit),
+    }
 }
 
 /// Whether these bytes stand at a place in others.

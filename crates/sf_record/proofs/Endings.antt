@@ -1,6 +1,5 @@
 -- What a pump stands for once its last chunk is made.
-use Rattle.std.proofs.Common.{◌≡◌, ℕ, ◌^◌, ◌≤◌, List, [], ◌∷◌, ◌++◌, Option, Some, None, IfSome, IsSome, inl, inr, refl, sym, ap, subst, ◌∙◌, false}
-use Rattle.std.specs.List.{AllByRecursion}
+use Rattle.std.proofs.Common.{◌≡◌, ℕ, List, [], ◌∷◌, ◌++◌, Option, Some, None, IfSome, IsSome, inl, inr, refl, sym, ap, subst, ◌∙◌, false}
 use Rattle.std.specs.Option.{option_to_list}
 use Rattle.std.proofs.lemmas.List.{append-nil}
 use Rattle.sf_tick.specs.declared.types.Chunk.{Chunk}
@@ -20,16 +19,15 @@ over pump gatherer fault =
     record { given = pump.given; coded = pump.coded; held_back = None; gatherer = None; chunk = Some (marked gatherer.chunk); fault = fault }
 
 pub over_stands : (contents : Option (List ℕ)) (accepted : List Stored) (taken : List Chunk) (old : Pumping) (gatherer : Gathered) (fault : Option TrackFault)
-    → AllByRecursion (λ s. s.dts_us ≤ 2 ^ 30) accepted
     → chunks old.given accepted ≡ closed old.given accepted ++ marked gatherer.chunk ∷ []
     → Proper old.given.track old.given.scale (chunks old.given accepted)
     → taken ≡ closed old.given accepted
     → OfInput contents old.given (IsFront accepted)
     → (NotEndedEarly (over old gatherer fault) → EndsBy contents old.given accepted fault)
     → Stands contents accepted taken (over old gatherer fault)
-over_stands contents accepted taken old gatherer fault early split proper took front ends =
+over_stands contents accepted taken old gatherer fault split proper took front ends =
     let whole : taken ++ marked gatherer.chunk ∷ [] ≡ chunks old.given accepted = ap (λ (cs : List Chunk). cs ++ marked gatherer.chunk ∷ []) took ∙ sym split in
-    record { early = early; proper = rw whole proper; works = record { chunks = whole; front = front; ends = ends } }
+    record { proper = rw whole proper; works = record { chunks = whole; front = front; ends = ends } }
 
 -- a pump that was ended early
 was_early : (old : Pumping) (gatherer : Gathered) → old.coded.is_over ≡ false → NotEndedEarly (over old gatherer None) → ⊥
@@ -54,6 +52,6 @@ early_stands contents accepted taken old new (Some g) e same made split proper f
     let took : taken ≡ closed old.given accepted = sym (append-nil taken) ∙ ap (λ (c : Option Chunk). taken ++ option_to_list c) (sym none) ∙ w.chunks in
     let parts : chunks old.given accepted ≡ closed old.given accepted ++ marked g.chunk ∷ [] =
     split accepted w.stands ∙ ap (λ (p : Pumping). closed old.given accepted ++ option_to_list p.chunk) made in
-    rw made (over_stands contents accepted taken old g None stands.early parts (proper accepted w.stands) took
+    rw made (over_stands contents accepted taken old g None parts (proper accepted w.stands) took
     (reads_front contents old.given accepted old.coded.setup old.coded.place old.held_back w.reads)
     (λ not. absurd (was_early old g w.going not)))

@@ -1,9 +1,7 @@
 -- How an input that is read goes on behind a sample.
-use Rattle.std.proofs.Common.{◌≡◌, ℕ, ◌+◌, ◌^◌, ◌≤◌, Bool, true, false, cond, ltb, ◌||◌, List, [], ◌∷◌, ◌++◌, Option, Some, None, inl, inr, refl, sym, ap, subst, ◌∙◌, append_assoc, arith, drop, option_map}
+use Rattle.std.proofs.Common.{◌≡◌, ℕ, List, [], ◌∷◌, ◌++◌, Option, Some, None, inl, inr, refl, sym, ap, subst, ◌∙◌, append_assoc, drop, option_map}
 use Rattle.std.specs.Option.{option_to_list}
-use Rattle.std.proofs.lemmas.Bool.{ltb-false}
 use Rattle.std.proofs.lemmas.List.{append-nil}
-use Rattle.sf_tick.specs.declared.types.Sample.{Sample}
 use Rattle.sf_tick.specs.declared.types.Setup.{Setup}
 use Rattle.sf_tick.specs.declared.types.Stored.{Stored}
 use Rattle.sf_coded.specs.declared.types.CodedSample.{CodedSample}
@@ -11,16 +9,16 @@ use Rattle.sf_coded.specs.CodedFile.{CodedFile, Records, records_at, coded}
 use Rattle.sf_gather.specs.declared.given.Given.{Given}
 use Rattle.sf_gather.specs.declared.given.LastSample.{LastSample}
 use Rattle.sf_gather.specs.declared.accepting.SampleFault.{SampleFault}
-use Rattle.sf_gather.specs.declared.accepting.SampleFault.TheVariants.{TimeTooLarge, BeforeStart, Falls, GapTooLong, OffsetTooLarge}
-use Rattle.sf_gather.specs.Accepting.{kept_of, last_from, last_of, stored_of, first_fault, too_large, before_start, falls, gap_too_long, offset_too_large, refusal}
-use Rattle.sf_record.specs.declared.faults.InputFault.TheVariants.{Sample as SampleRefused}
+use Rattle.sf_gather.specs.Accepting.{IsOfSample, kept_of, last_from, last_of, stored_of, refusal}
+use Rattle.sf_gather.proofs.GatherLaws.{refusal_tells}
+use Rattle.std.specs.Option.{IfSome}
 use Rattle.sf_gather.specs.Chunks.{closed}
 use Rattle.sf_gather.specs.Gathered.{Gathered, Stands}
 use Rattle.sf_gather.specs.Proper.{Proper}
 use Rattle.sf_record.specs.declared.faults.TrackFault.{TrackFault}
 use Rattle.sf_record.specs.declared.turns.Advance.{Advance}
 use Rattle.sf_record.specs.declared.turns.Advance.TheVariants.{Accepted, Ended, NoMemory}
-use Rattle.sf_record.specs.Input.{fault_at, is_late, not_yet, sample_fault, IsOfBytes, taken, ended, with_front, unless, Taken, OfInput, IsFront}
+use Rattle.sf_record.specs.Input.{fault_at, sample_fault, IsOfBytes, taken, ended, with_front, unless, Taken, OfInput, IsFront}
 use Rattle.sf_record.specs.Reading.{EndsBy, Reads}
 use Rattle.sf_record.specs.inner.Going.{AdvancesTo, PutIn}
 
@@ -58,57 +56,16 @@ says_rest file given accepted setup place held r rest e =
     ∙ ap (λ (ss : List CodedSample). taken given None ss rest.end) (append_assoc r.samples (option_to_list held) rest.samples)
     ∙ r.says (option_to_list held ++ rest.samples) rest.end
 
--- the first of faults that lie in the bytes lies there too
-abbrev OfBytes : Option SampleFault → Type 0
-OfBytes None = Unit {0}
-OfBytes (Some fault) = IsOfBytes (SampleRefused fault)
-
-of_bytes_if : (b : Bool) (fault : SampleFault) → IsOfBytes (SampleRefused fault) → OfBytes (cond b (Some fault) None)
-of_bytes_if true fault of = of
-of_bytes_if false fault of = tt
-
-of_bytes_unless : (b : Bool) (fault : SampleFault) → IsOfBytes (SampleRefused fault) → OfBytes (cond b None (Some fault))
-of_bytes_unless true fault of = tt
-of_bytes_unless false fault of = of
-
-falls_of_bytes : (given : Given) (last : Option LastSample) (sample : Sample) → OfBytes (falls given last sample)
-falls_of_bytes given None sample = tt
-falls_of_bytes given (Some last) sample = of_bytes_if _ (Falls (last.dts_us + given.options.start_us)) tt
-
-gap_of_bytes : (given : Given) (last : Option LastSample) (sample : Sample) → OfBytes (gap_too_long given last sample)
-gap_of_bytes given None sample = tt
-gap_of_bytes given (Some last) sample = of_bytes_if _ GapTooLong tt
-
-first_of_bytes : (rule : Option SampleFault) (rules : List (Option SampleFault)) → OfBytes rule → OfBytes (first_fault rules) → OfBytes (first_fault (rule ∷ rules))
-first_of_bytes None rules one more = more
-first_of_bytes (Some fault) rules one more = one
-
-refusal_of_bytes : (given : Given) (last : Option LastSample) (sample : Sample) → OfBytes (refusal given last sample)
-refusal_of_bytes given last sample =
-    first_of_bytes (too_large sample) _ (of_bytes_if _ TimeTooLarge tt)
-    (first_of_bytes (before_start given sample) _ (of_bytes_if _ BeforeStart tt)
-    (first_of_bytes (falls given last sample) _ (falls_of_bytes given last sample)
-    (first_of_bytes (gap_too_long given last sample) _ (gap_of_bytes given last sample)
-    (first_of_bytes (offset_too_large given sample) [] (of_bytes_unless _ OffsetTooLarge tt) tt))))
-
-mapped_of_bytes : (at : ℕ) (rule : Option SampleFault) (fault : TrackFault) → OfBytes rule → option_map (sample_fault at) rule ≡ Some fault → IsOfBytes fault.why
+mapped_of_bytes : (at : ℕ) (rule : Option SampleFault) (fault : TrackFault) → IfSome rule IsOfSample → option_map (sample_fault at) rule ≡ Some fault → IsOfBytes fault.why
 mapped_of_bytes at None fault of e = absurd (cc e)
 mapped_of_bytes at (Some first) fault of e =
     let is : sample_fault at first ≡ fault = cc e in
     let P : TrackFault → Type 0 = λ f. IsOfBytes f.why in
     subst P is of
 
-fault_of_bytes_if : (late : Bool) (at : ℕ) (rule : Option SampleFault) (fault : TrackFault) → OfBytes rule
-    → cond late (Some (not_yet at)) (option_map (sample_fault at) rule) ≡ Some fault → IsOfBytes fault.why
-fault_of_bytes_if true at rule fault of e =
-    let is : not_yet at ≡ fault = cc e in
-    let P : TrackFault → Type 0 = λ f. IsOfBytes f.why in
-    subst P is tt
-fault_of_bytes_if false at rule fault of e = mapped_of_bytes at rule fault of e
-
 -- a sample is refused by what its bytes say
 fault_of_bytes : (given : Given) (last : Option LastSample) (found : CodedSample) (fault : TrackFault) → fault_at given last found ≡ Some fault → IsOfBytes fault.why
-fault_of_bytes given last found fault e = fault_of_bytes_if (is_late found.sample) found.at (refusal given last found.sample) fault (refusal_of_bytes given last found.sample) e
+fault_of_bytes given last found fault e = mapped_of_bytes found.at (refusal given last found.sample) fault (refusal_tells given last found.sample) e
 
 says_refused : (contents : Option (List ℕ)) (given : Given) (accepted : List Stored) (setup : Setup) (place : ℕ) (found : CodedSample) (fault : TrackFault)
     → fault_at given (last_of accepted) found ≡ Some fault → Reads contents given accepted setup place (Some found)
@@ -147,20 +104,6 @@ ends_front (Some file) given accepted None ends = front_of accepted None _ ends
 ends_front (Some file) given accepted (Some fault) (inl read) = read.1
 ends_front (Some file) given accepted (Some fault) (inr exact) = front_of accepted (Some fault) _ exact.1
 
-not_late : (late : Bool) (fault : TrackFault) (other : Option TrackFault) → cond late (Some fault) other ≡ None → late ≡ false
-not_late true fault other e = absurd (cc e)
-not_late false fault other e = refl
-
-neither : (a b : Bool) → (a || b) ≡ false → a ≡ false
-neither true b e = absurd (cc e)
-neither false b e = refl
-
--- a sample that is accepted isn't decoded behind the greatest time
-early_of : (given : Given) (last : Option LastSample) (found : CodedSample) → fault_at given last found ≡ None → (stored_of given found.sample).dts_us ≤ 2 ^ 30
-early_of given last found e =
-    let early : is_late found.sample ≡ false = not_late (is_late found.sample) _ _ e in
-    omega (arith, ltb-false _ _ (neither (ltb (2 ^ 30) found.sample.dts_us) (ltb (2 ^ 30) found.sample.pts_us) early))
-
 -- a step with a sample that was read
 pub goes_next : (contents : Option (List ℕ)) (accepted : List Stored) (old new : Gathered) (found : CodedSample) (setup : Setup) (place : ℕ) (held : Option CodedSample) (advance : Advance)
     → PutIn old found new held advance → Stands accepted old → Reads contents old.given accepted setup place (Some found)
@@ -172,7 +115,6 @@ goes_next contents accepted old new found setup place held (Accepted chunk) p st
     let P : Given → Type 0 = λ given. Proper given.track given.scale (closed given (accepted ++ next ∷ [])) in
     record {
       sample = next;
-      early = early_of old.given old.last found p.1.right;
       stands = p.1.stands accepted stands;
       reads = rw p.0 (reads_more contents old.given accepted setup place found right reads);
       grows = p.1.grows accepted stands;

@@ -6,5 +6,5 @@ pub mod Counted
 pub mod Wrote
 pub mod Headers
 pub mod Recordings
-pub mod Early
+pub mod Staying
 pub mod Errors

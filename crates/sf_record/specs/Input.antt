@@ -1,18 +1,22 @@
 -- What an input says behind its header: which of its samples are accepted, and its first fault.
-use Rattle.std.specs.Prelude.{◌≡◌, ℕ, ◌^◌, nat_lt, Bool, ◌||◌, List, [], ◌∷◌, ◌++◌, Option, Some, None, option_map, ⊤, if◌then◌else◌}
-use Rattle.sf_tick.specs.declared.types.Sample.{Sample}
+use Rattle.std.specs.Prelude.{◌≡◌, ℕ, List, [], ◌∷◌, ◌++◌, Option, Some, None, option_map, ⊤}
 use Rattle.sf_tick.specs.declared.types.Stored.{Stored}
 use Rattle.sf_coded.specs.declared.types.CodedFault.{CodedFault}
 use Rattle.sf_coded.specs.declared.types.CodedFault.TheVariants.{ReadFault, NoMemory}
 use Rattle.sf_coded.specs.declared.types.CodedSample.{CodedSample}
 use Rattle.sf_coded.specs.CodedFile.{coded, fault_place}
+use Rattle.sf_avc.specs.declared.nal.NalFault.TheVariants as units
+use Rattle.sf_avc.specs.declared.config_body.ConfigFault.TheVariants as configs
+use Rattle.sf_entry.specs.declared.track_setup.SetupFault.{SetupFault}
+use Rattle.sf_entry.specs.declared.track_setup.SetupFault.TheVariants as setups
+use Rattle.sf_entry.specs.declared.track_setup.TrackSetup.{TrackSetup}
 use Rattle.sf_gather.specs.declared.given.Given.{Given}
 use Rattle.sf_gather.specs.declared.given.LastSample.{LastSample}
+use Rattle.sf_gather.specs.declared.given.Options.{Options}
 use Rattle.sf_gather.specs.declared.accepting.SampleFault.{SampleFault}
-use Rattle.sf_gather.specs.declared.accepting.SampleFault.TheVariants.{NoMemory as NoMemoryFor}
-use Rattle.sf_gather.specs.Accepting.{kept_of, refusal, stored_of}
+use Rattle.sf_gather.specs.Accepting.{IsOfSample, kept_of, refusal, stored_of}
 use Rattle.sf_record.specs.declared.faults.InputFault.{InputFault}
-use Rattle.sf_record.specs.declared.faults.InputFault.TheVariants.{Coded, Sample as SampleRefused, NotYet}
+use Rattle.sf_record.specs.declared.faults.InputFault.TheVariants.{Coded, Setup as SetupRefused, Sample as SampleRefused}
 use Rattle.sf_record.specs.declared.faults.TrackFault.{TrackFault}
 
 -- the bytes are no coded sample file, for this fault
@@ -23,31 +27,36 @@ coded_fault fault = record { why = Coded fault; place = fault_place fault }
 abbrev pub read_fault : TrackFault
 read_fault = coded_fault ReadFault
 
+-- no track is made of the setup in the header, for this fault, which stands after the whole header
+abbrev pub setup_fault : SetupFault → TrackFault
+setup_fault fault = record { why = SetupRefused fault; place = 22 }
+
 -- the sample of the record at a place breaks a rule
 abbrev pub sample_fault : ℕ → SampleFault → TrackFault
 sample_fault at fault = record { why = SampleRefused fault; place = at }
 
--- the record at a place is of a form that isn't taken yet
-abbrev pub not_yet : ℕ → TrackFault
-not_yet at = record { why = NotYet; place = at }
+-- a fault says something of a setup: it isn't want of memory
+abbrev pub IsOfSetup : SetupFault → Type 0
+IsOfSetup setups.NoMemory = ⊥
+IsOfSetup (setups.Avc configs.NoMemory) = ⊥
+IsOfSetup (setups.Avc (configs.Nal units.NoMemory)) = ⊥
+IsOfSetup fault = ⊤
 
 -- a fault lies in an input's bytes: it is neither a failed read nor want of memory
 abbrev pub IsOfBytes : InputFault → Type 0
 IsOfBytes (Coded ReadFault) = ⊥
 IsOfBytes (Coded NoMemory) = ⊥
 IsOfBytes (Coded fault) = ⊤
-IsOfBytes (SampleRefused NoMemoryFor) = ⊥
-IsOfBytes (SampleRefused fault) = ⊤
-IsOfBytes NotYet = ⊤
+IsOfBytes (SetupRefused fault) = IsOfSetup fault
+IsOfBytes (SampleRefused fault) = IsOfSample fault
 
--- whether a time of a sample passes the greatest one of the form, 2 ^ 30 microseconds
-abbrev pub is_late : Sample → Bool
-is_late sample = nat_lt (2 ^ 30) sample.dts_us || nat_lt (2 ^ 30) sample.pts_us
+-- what the track of a number with this setup is given
+abbrev pub given_of : ℕ → TrackSetup → Options → Given
+given_of track setup options = record { track = track; kind = setup.kind; scale = setup.scale; options = options }
 
--- Why a sample isn't accepted behind the last one, and where: it leaves the form, or breaks a rule of its track.
+-- Why a sample isn't accepted after the last one, and where: it breaks a rule of its track.
 abbrev pub fault_at : Given → Option LastSample → CodedSample → Option TrackFault
-fault_at given last found =
-    if is_late found.sample then Some (not_yet found.at) else option_map (sample_fault found.at) (refusal given last found.sample)
+fault_at given last found = option_map (sample_fault found.at) (refusal given last found.sample)
 
 -- What an input says: the samples that are accepted, as they are stored, and the fault that stands behind them, unless it is whole.
 pub record Taken : Type 0 where

@@ -1,6 +1,5 @@
 -- What a pump is, to those who use it, and what it stands for.
-use Rattle.std.specs.Prelude.{◌≡◌, ℕ, ◌+◌, ◌*◌, ◌^◌, ◌≤◌, true, false, List, [], ◌∷◌, ◌++◌, length, is_some, is_none, Option, Some, None, IfSome, IsSome, if◌then◌else◌, ◌⊎◌}
-use Rattle.std.specs.List.{AllByRecursion}
+use Rattle.std.specs.Prelude.{◌≡◌, ℕ, ◌+◌, ◌*◌, true, false, List, [], ◌∷◌, ◌++◌, length, is_some, is_none, Option, Some, None, IfSome, IsSome, if◌then◌else◌, ◌⊎◌}
 use Rattle.std.specs.Option.{option_to_list}
 use Rattle.sf_tick.specs.declared.types.Chunk.{Chunk}
 use Rattle.sf_tick.specs.declared.types.Stored.{Stored}
@@ -60,7 +59,6 @@ given_chunks taken pump = taken ++ option_to_list pump.chunk
 
 -- A pump whose source has these contents stands for the accepted samples and for the chunks that were taken from it.
 pub record Stands (contents : Option (List ℕ)) (accepted : List Stored) (taken : List Chunk) (pump : Pumping) : Type 0 where
-  pub early : AllByRecursion (λ s. s.dts_us ≤ 2 ^ 30) accepted
   pub proper : Proper pump.given.track pump.given.scale (given_chunks taken pump)
   pub works : Works contents accepted (given_chunks taken pump) pump pump.gatherer
 

@@ -3,6 +3,7 @@
 ghost use Rattle.std.specs.Prelude.{◌≡◌, ℕ, ◌≤◌, ◌<◌, true, false, List, [], ◌∷◌, ◌++◌, Option, Some, None, Ok, Err, OnOk, OnErr, ◌⊎◌};
 ghost use Rattle.sf_tick.specs.declared.types.Chunk.{Chunk};
 ghost use Rattle.sf_tick.specs.declared.types.Stored.{Stored};
+ghost use Rattle.sf_entry.specs.declared.track_setup.TrackSetup.{TrackSetup};
 ghost use Rattle.sf_world.specs.Counts.{Rose};
 ghost use Rattle.sf_world.specs.Views.{Unchanged};
 ghost use Rattle.sf_record.specs.inner.Copying.{Copied, Copies, Goes, Limited, Puttable};
@@ -22,11 +23,11 @@ use sf_world::{Sink, Source};
 // Puts a chunk into the file, unless it is the empty chunk of a track without samples.
 fn put_filled<O: Sink>(file: &mut OutFile<O>, chunk: &Chunk) -> Result<(), PutFault>
     requires { Puttable file.old chunk.now }
-    ensures holds { OnOk result ((begun : Option (List ℕ)) (scale : ℕ) (chunks : List Chunk) → Holds begun scale chunks file.old
-        → Holds begun scale (chunks ++ filled (chunk.now ∷ [])) file.new × ((more : List Chunk) → put_behind scale chunks (filled (chunk.now ∷ []) ++ more) ≡ put_behind scale (chunks ++ filled (chunk.now ∷ [])) more)) }
+    ensures holds { OnOk result ((begun : Option (List ℕ)) (setup : TrackSetup) (chunks : List Chunk) → Holds begun setup chunks file.old
+        → Holds begun setup (chunks ++ filled (chunk.now ∷ [])) file.new × ((more : List Chunk) → put_behind setup chunks (filled (chunk.now ∷ []) ++ more) ≡ put_behind setup (chunks ++ filled (chunk.now ∷ [])) more)) }
     ensures limit { (limit : LimitShown) → result ≡ Err (PutFault.Limit limit) → (file.new ≡ file.old)
-        × ((begun : Option (List ℕ)) (scale : ℕ) (chunks more : List Chunk) → Holds begun scale chunks file.old
-        → put_behind scale chunks (filled (chunk.now ∷ []) ++ more) ≡ record { chunks = chunks; limit = Some limit }) }
+        × ((begun : Option (List ℕ)) (setup : TrackSetup) (chunks more : List Chunk) → Holds begun setup chunks file.old
+        → put_behind setup chunks (filled (chunk.now ∷ []) ++ more) ≡ record { chunks = chunks; limit = Some limit }) }
     ensures later { file.old.sink.faults ≤ file.new.sink.faults }
     ensures failed { result ≡ Err PutFault.WriteFault → Rose file.old.sink.faults file.new.sink.faults }
 {
@@ -41,17 +42,17 @@ fn copy_turn<S: Source, O: Sink>(
     pump: &mut Pump<S>,
     file: &mut OutFile<O>,
 ) -> Result<bool, PutFault>
-    requires { (begun : Option (List ℕ)) × Goes pump.old.coded.source.content begun pump.old file.old }
-    ensures goes { result ≡ Ok true → (begun : Option (List ℕ)) (accepted : List Stored) (taken : List Chunk)
-        → Copies pump.old.coded.source.content begun accepted taken pump.old file.old
-        → Goes pump.old.coded.source.content begun pump.new file.new }
+    requires { (begun : Option (List ℕ)) × (setup : TrackSetup) × Goes pump.old.coded.source.content begun setup pump.old file.old }
+    ensures goes { result ≡ Ok true → (begun : Option (List ℕ)) (setup : TrackSetup) (accepted : List Stored) (taken : List Chunk)
+        → Copies pump.old.coded.source.content begun setup accepted taken pump.old file.old
+        → Goes pump.old.coded.source.content begun setup pump.new file.new }
     ensures less { result ≡ Ok true → turns_left pump.old.coded.source.size pump.new < turns_left pump.old.coded.source.size pump.old }
-    ensures done { result ≡ Ok false → (begun : Option (List ℕ)) (accepted : List Stored) (taken : List Chunk)
-        → Copies pump.old.coded.source.content begun accepted taken pump.old file.old
-        → (samples : List Stored) × Copied pump.old.coded.source.content begun samples pump.new file.new }
-    ensures limit { (limit : LimitShown) → result ≡ Err (PutFault.Limit limit) → (begun : Option (List ℕ)) (accepted : List Stored) (taken : List Chunk)
-        → Copies pump.old.coded.source.content begun accepted taken pump.old file.old
-        → (samples : List Stored) × Limited pump.old.coded.source.content begun samples limit pump.new file.new }
+    ensures done { result ≡ Ok false → (begun : Option (List ℕ)) (setup : TrackSetup) (accepted : List Stored) (taken : List Chunk)
+        → Copies pump.old.coded.source.content begun setup accepted taken pump.old file.old
+        → (samples : List Stored) × Copied pump.old.coded.source.content begun setup samples pump.new file.new }
+    ensures limit { (limit : LimitShown) → result ≡ Err (PutFault.Limit limit) → (begun : Option (List ℕ)) (setup : TrackSetup) (accepted : List Stored) (taken : List Chunk)
+        → Copies pump.old.coded.source.content begun setup accepted taken pump.old file.old
+        → (samples : List Stored) × Limited pump.old.coded.source.content begun setup samples limit pump.new file.new }
     ensures later { file.old.sink.faults ≤ file.new.sink.faults }
     ensures failed { result ≡ Err PutFault.WriteFault → Rose file.old.sink.faults file.new.sink.faults }
     ensures source_failed { pump.new.fault ≡ Some read_fault → (pump.old.fault ≡ Some read_fault) ⊎ Rose pump.old.coded.source.faults pump.new.coded.source.faults }
@@ -79,12 +80,12 @@ pub(crate) fn copy_chunks<S: Source, O: Sink>(
     pump: &mut Pump<S>,
     file: &mut OutFile<O>,
 ) -> Result<(), PutFault>
-    requires { (begun : Option (List ℕ)) × Goes pump.old.coded.source.content begun pump.old file.old }
-    ensures done { OnOk result ((begun : Option (List ℕ)) → Goes pump.old.coded.source.content begun pump.old file.old
-        → (accepted : List Stored) × Copied pump.old.coded.source.content begun accepted pump.new file.new) }
-    ensures limit { (limit : LimitShown) → result ≡ Err (PutFault.Limit limit) → (begun : Option (List ℕ))
-        → Goes pump.old.coded.source.content begun pump.old file.old
-        → (accepted : List Stored) × Limited pump.old.coded.source.content begun accepted limit pump.new file.new }
+    requires { (begun : Option (List ℕ)) × (setup : TrackSetup) × Goes pump.old.coded.source.content begun setup pump.old file.old }
+    ensures done { OnOk result ((begun : Option (List ℕ)) (setup : TrackSetup) → Goes pump.old.coded.source.content begun setup pump.old file.old
+        → (accepted : List Stored) × Copied pump.old.coded.source.content begun setup accepted pump.new file.new) }
+    ensures limit { (limit : LimitShown) → result ≡ Err (PutFault.Limit limit) → (begun : Option (List ℕ)) (setup : TrackSetup)
+        → Goes pump.old.coded.source.content begun setup pump.old file.old
+        → (accepted : List Stored) × Limited pump.old.coded.source.content begun setup accepted limit pump.new file.new }
     ensures later { file.old.sink.faults ≤ file.new.sink.faults }
     ensures failed { result ≡ Err PutFault.WriteFault → Rose file.old.sink.faults file.new.sink.faults }
     ensures source_failed { pump.new.fault ≡ Some read_fault → (pump.old.fault ≡ Some read_fault) ⊎ Rose pump.old.coded.source.faults pump.new.coded.source.faults }

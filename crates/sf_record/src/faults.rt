@@ -1,7 +1,8 @@
 ghost use Rattle.std.specs.Prelude.{◌≡◌};
-ghost use Rattle.sf_record.specs.Input.{coded_fault, not_yet, sample_fault};
+ghost use Rattle.sf_record.specs.Input.{coded_fault, sample_fault, setup_fault};
 
 use sf_coded::CodedFault;
+use sf_entry::SetupFault;
 use sf_gather::SampleFault;
 
 /// Why an input is refused.
@@ -9,10 +10,10 @@ use sf_gather::SampleFault;
 pub enum InputFault {
     /// It is no coded sample file, or its source failed.
     Coded(CodedFault),
+    /// No track is made of the setup in its header.
+    Setup(SetupFault),
     /// A sample breaks a rule of its track.
     Sample(SampleFault),
-    /// It is whole so far and of a form that isn't taken yet.
-    NotYet,
 }
 
 /// Why the input of a track is refused, and at which place in its bytes.
@@ -42,12 +43,12 @@ pub(crate) fn sample_fault(at: u64, fault: SampleFault) -> TrackFault
     }
 }
 
-/// The record at a place is of a form that isn't taken yet.
-pub(crate) fn not_yet(at: u64) -> TrackFault
-    ensures { result ≡ not_yet at }
+/// No track is made of the setup in the header. The header is whole then: the place is that of the configuration.
+pub(crate) fn setup_fault(fault: SetupFault) -> TrackFault
+    ensures { result ≡ setup_fault fault }
 {
     TrackFault {
-        why: InputFault::NotYet,
-        place: at,
+        why: InputFault::Setup(fault),
+        place: 22,
     }
 }

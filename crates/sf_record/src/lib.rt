@@ -8,7 +8,6 @@
 
 mod copying;
 mod faults;
-mod form;
 mod laws;
 mod limits;
 mod outcome;

@@ -15,7 +15,7 @@ pub enum Outcome {
     WriteFault,
     /// The file would have passed a limit with more samples.
     Limit(LimitShown),
-    /// The input is refused, behind the samples that are in the file.
+    /// The input is refused, after the samples that are in the file.
     Refused(TrackFault),
     /// The source failed.
     ReadFault,

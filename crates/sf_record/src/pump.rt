@@ -1,5 +1,4 @@
-ghost use Rattle.std.specs.Prelude.{◌≡◌, ◌↔◌, ◌*◌, ◌≤◌, ◌<◌, ◌^◌, ◌++◌, List, [], Option, None, Some, false, IfSome, IsSome, ◌⊎◌};
-ghost use Rattle.std.specs.List.{AllByRecursion};
+ghost use Rattle.std.specs.Prelude.{◌≡◌, ◌↔◌, ◌*◌, ◌≤◌, ◌<◌, ◌++◌, List, [], Option, None, Some, false, IfSome, IsSome, ◌⊎◌};
 ghost use Rattle.std.specs.Option.{option_to_list, option_copied};
 ghost use Rattle.sf_tick.specs.declared.types.Chunk.{Chunk};
 ghost use Rattle.sf_tick.specs.declared.types.Stored.{Stored};
@@ -9,14 +8,15 @@ ghost use Rattle.sf_gather.specs.Gathered.{Stands as GatherStands};
 ghost use Rattle.sf_gather.specs.Proper.{Proper};
 ghost use Rattle.sf_world.specs.Counts.{Rose};
 ghost use Rattle.sf_world.specs.Views.{Unchanged};
-ghost use Rattle.sf_record.specs.Input.{read_fault};
+ghost use Rattle.sf_record.specs.Input.{given_of, read_fault};
 ghost use Rattle.sf_record.specs.Pumping.{NotEndedEarly, Stands, StepsTo, left, rest_of, turns_left};
 
 use crate::faults::TrackFault;
 use crate::turns::{Advance, go_on};
 use sf_coded::{Coded, CodedSample};
-use sf_gather::{Gather, Given, Options, closed_chunks_stay, proper_chunks};
-use sf_tick::{Chunk, Kind};
+use sf_entry::TrackSetup;
+use sf_gather::{Gather, Given, Options, closed_chunks_stay};
+use sf_tick::Chunk;
 use sf_world::Source;
 use std::alloc::Global;
 use std::marker::Model;
@@ -58,14 +58,19 @@ impl<S: Source> Model for Pump<S> {
 }
 
 impl<S: Source> Pump<S> {
-    /// A pump for a coded file of which no sample was read, at `scale` ticks a second. So far the
-    /// kind is sound.
-    pub fn new(alloc: Global, track: u32, coded: Coded<S>, scale: u32, options: Options) -> Pump<S>
+    /// A pump for a coded file of which no sample was read, as the track of this number with the
+    /// setup that is made of the file's.
+    pub fn new(
+        alloc: Global,
+        track: u32,
+        coded: Coded<S>,
+        setup: &TrackSetup,
+        options: Options,
+    ) -> Pump<S>
         requires unread { HasRead [] coded }
         requires fresh { coded.is_over ≡ false }
-        requires kind { coded.setup.kind ≡ Kind.Aac }
-        requires scale { 1 ≤ scale }
-        ensures given { result.given ≡ record { track = track; kind = Kind.Aac; scale = scale; options = options } }
+        requires scale { 1 ≤ setup.now.scale }
+        ensures given { result.given ≡ given_of track setup.now options }
         ensures coded { result.coded ≡ coded }
         ensures gatherer { IsSome result.gatherer }
         ensures chunk { result.chunk ≡ None }
@@ -73,15 +78,15 @@ impl<S: Source> Pump<S> {
     {
         let given = Given {
             track,
-            kind: Kind::Aac,
-            scale,
+            kind: setup.kind,
+            scale: setup.scale,
             options,
         };
         Pump {
             given,
             coded,
             held: None,
-            gather: Some(Gather::new(alloc, track, Kind::Aac, scale, options)),
+            gather: Some(Gather::new(alloc, track, setup.kind, setup.scale, options)),
             chunk: None,
             fault: None,
         }
@@ -155,11 +160,8 @@ impl<S: Source> Pump<S> {
         ensures stays { (accepted : List Stored) (taken : List Chunk) → Stands self.old.coded.source.content accepted taken self.old
             → IsSome self.old.gatherer → (more : List Stored)
             → (rest : List Chunk) × (chunks self.old.given (accepted ++ more) ≡ (taken ++ option_to_list result) ++ rest) }
-        ensures early { (accepted : List Stored) (taken : List Chunk) → Stands self.old.coded.source.content accepted taken self.old
-            → IfSome result (λ chunk. AllByRecursion (λ s. s.dts_us ≤ 2 ^ 30) chunk.samples) }
     {
-        // The samples of the chunks are the accepted ones, and more samples don't change what was handed out.
-        proper_chunks(self.given);
+        // More samples don't change what was handed out.
         closed_chunks_stay(self.given);
         self.chunk.take()
     }
@@ -182,13 +184,6 @@ impl<S: Source> Pump<S> {
         ensures { option_copied result ≡ self.now.fault }
     {
         self.fault.as_ref()
-    }
-
-    /// How many ticks a second the track has.
-    pub(crate) fn scale(&self) -> u32
-        ensures { result ≡ self.now.given.scale }
-    {
-        self.given.scale
     }
 
     /// The source alone.

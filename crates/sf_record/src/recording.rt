@@ -1,24 +1,28 @@
 //! One input is recorded into one file of a shelf.
 
-ghost use Rattle.std.specs.Prelude.{◌≡◌, ◌≢◌, ℕ, ◌≤◌, ◌⊎◌, false, List, [], Some, IfOk, IfErr, MatchResult};
+ghost use Rattle.std.specs.Prelude.{◌≡◌, ◌≢◌, ℕ, ◌≤◌, ◌⊎◌, false, List, [], Some, None, Ok, length, IfOk, IfErr, MatchResult};
 ghost use Rattle.sf_world.specs.Counts.{Rose};
 ghost use Rattle.sf_world.specs.Views.{KeptAtMost, Unchanged};
 ghost use Rattle.sf_coded.specs.Progress.{HasRead};
-ghost use Rattle.sf_record.specs.Input.{IsOfBytes, coded_fault};
+ghost use Rattle.sf_record.specs.Input.{IsOfBytes, coded_fault, setup_fault};
 ghost use Rattle.sf_record.specs.Recorded.{KeptToLimit, Recorded, answer_for};
-ghost use Rattle.sf_record.specs.Said.{OfSaid, Says, refused_at_header, said_of};
+ghost use Rattle.sf_record.specs.Said.{OfSaid, Says, said_of, without_setup};
+ghost use Rattle.sf_entry.specs.TrackSetup.{made};
+ghost use Rattle.sf_file.specs.Holdable.{IsReadable};
 ghost use Rattle.sf_record.specs.inner.Written.{Ready};
 ghost use Rattle.sf_record.specs.declared.faults.TrackFault.{TrackFault};
 ghost use Rattle.sf_record.specs.declared.limits.LimitShown.{LimitShown};
 
-use crate::faults::{TrackFault, coded_fault};
-use crate::form::{scale_of, setup_fault};
+use crate::faults::{TrackFault, coded_fault, setup_fault};
 use crate::outcome::{NO_FILE, Outcome, RecordEnd};
 use crate::pump::Pump;
 use crate::writing::write_pump;
 use sf_coded::{Coded, CodedFault};
+use sf_entry::{SetupFault, TrackSetup, make_entry};
 use sf_file::closed_file_means;
 use sf_gather::Options;
+use sf_layout::made_entries_are_read_back;
+use sf_tick::Setup;
 use sf_world::{Denied, Shelf, Source};
 use std::alloc::Global;
 
@@ -48,29 +52,63 @@ fn unread(fault: CodedFault) -> HeaderFault
     }
 }
 
-// The pump of a coded file of which no sample was read, unless its setup is of a form that isn't taken yet.
-fn pump_of<S: Source>(alloc: Global, coded: Coded<S>) -> Result<Pump<S>, (S, HeaderFault)>
+// The pump of an input, and the setup of its track.
+#[derive(Drop)]
+struct Opened<S: Source> {
+    pump: Pump<S>,
+    setup: TrackSetup,
+}
+
+// Why no track is made of a setup.
+fn unmade(fault: SetupFault) -> HeaderFault
+    ensures refused { (refused : TrackFault) → result ≡ HeaderFault.Refused refused → (refused ≡ setup_fault fault) × (fault ≢ SetupFault.NoMemory) }
+    ensures read { result ≢ HeaderFault.ReadFault }
+{
+    match fault {
+        SetupFault::NoMemory => HeaderFault::NoMemory,
+        fault => HeaderFault::Refused(setup_fault(fault)),
+    }
+}
+
+// A file can hold a track that is made of a setup.
+fn track_is_readable(setup: &Setup, track: &TrackSetup)
+    requires config { length setup.now.config ≤ 65536 }
+    requires made { made setup.now ≡ Ok track.now }
+    requires scale { 1 ≤ track.now.scale }
+    ensures { IsReadable track.now }
+{
+    made_entries_are_read_back();
+    // Ticks a second are a number of four bytes.
+    let _ticks = track.scale;
+}
+
+// The pump of a coded file of which no sample was read, unless no track is made of its setup.
+fn pump_of<S: Source>(alloc: Global, coded: Coded<S>) -> Result<Opened<S>, (S, HeaderFault)>
     requires unread { HasRead [] coded }
     requires fresh { coded.is_over ≡ false }
-    ensures ready { IfOk result (λ pump. Ready coded.source.content pump.given.scale pump) }
-    ensures source { MatchResult result (λ pump. pump.coded ≡ coded) (λ e. S.seen e.0 ≡ coded.source) }
-    ensures refused { IfErr result (λ e. (fault : TrackFault) × (e.1 ≡ HeaderFault.Refused fault) × IsOfBytes fault.why
-        × Says coded.source.content (refused_at_header fault)) }
+    ensures ready { IfOk result (λ o. Ready coded.source.content o.setup o.pump) }
+    ensures source { MatchResult result (λ o. o.pump.coded ≡ coded) (λ e. S.seen e.0 ≡ coded.source) }
+    ensures refused { IfErr result (λ e. (fault : TrackFault) → e.1 ≡ HeaderFault.Refused fault → IsOfBytes fault.why
+        × Says coded.source.content (without_setup (Some fault))) }
+    ensures read { IfErr result (λ e. e.1 ≢ HeaderFault.ReadFault) }
 {
-    if let Some(fault) = setup_fault(coded.setup()) {
-        return Err((coded.give_source(), HeaderFault::Refused(fault)));
+    match make_entry(alloc, coded.setup()) {
+        Ok(setup) => {
+            track_is_readable(coded.setup(), &setup);
+            let pump = Pump::new(alloc, 0, coded, &setup, OPTIONS);
+            Ok(Opened { pump, setup })
+        }
+        Err(fault) => Err((coded.give_source(), unmade(fault))),
     }
-    let scale = scale_of(coded.setup());
-    Ok(Pump::new(alloc, 0, coded, scale, OPTIONS))
 }
 
 // Reads the header of an input. Where it isn't taken the source comes back.
-fn begin<S: Source>(alloc: Global, source: S) -> Result<Pump<S>, (S, HeaderFault)>
-    ensures ready { IfOk result (λ pump. Ready pump.coded.source.content pump.given.scale pump) }
+fn begin<S: Source>(alloc: Global, source: S) -> Result<Opened<S>, (S, HeaderFault)>
+    ensures ready { IfOk result (λ o. Ready o.pump.coded.source.content o.setup o.pump) }
     ensures refused { IfErr result (λ e. (fault : TrackFault) → e.1 ≡ HeaderFault.Refused fault → IsOfBytes fault.why
-        × Says (S.seen source).content (refused_at_header fault)) }
+        × Says (S.seen source).content (without_setup (Some fault))) }
     ensures read { IfErr result (λ e. e.1 ≡ HeaderFault.ReadFault → Rose (S.seen source).faults (S.seen e.0).faults) }
-    ensures source { MatchResult result (λ pump. Unchanged (S.seen source) pump.coded.source) (λ e. Unchanged (S.seen source) (S.seen e.0)) }
+    ensures source { MatchResult result (λ o. Unchanged (S.seen source) o.pump.coded.source) (λ e. Unchanged (S.seen source) (S.seen e.0)) }
 {
     match Coded::begin(alloc, source) {
         Ok(coded) => pump_of(alloc, coded),
@@ -111,25 +149,25 @@ fn denied_answer(denied: Denied) -> Outcome
 // Records an input whose header is taken.
 fn record_pump<S: Source, O: Shelf>(
     alloc: Global,
-    pump: Pump<S>,
+    opened: Opened<S>,
     name: &str,
     shelf: &mut O,
 ) -> RecordEnd<S>
-    requires { Ready pump.coded.source.content pump.given.scale pump }
-    ensures recorded { OfSaid pump.coded.source.content (λ said. Recorded said result.outcome result.report name.now (O.seen shelf.old) (O.seen shelf.new)) }
-    ensures limit { (limit : LimitShown) → result.outcome ≡ Outcome.Limit limit → ¬ Rose pump.coded.source.faults (S.seen result.source).faults
-        → OfSaid pump.coded.source.content (λ said. KeptToLimit said limit result.report name.now (O.seen shelf.old) (O.seen shelf.new)) }
+    requires { Ready opened.pump.coded.source.content opened.setup opened.pump }
+    ensures recorded { OfSaid opened.pump.coded.source.content (λ said. Recorded said result.outcome result.report name.now (O.seen shelf.old) (O.seen shelf.new)) }
+    ensures limit { (limit : LimitShown) → result.outcome ≡ Outcome.Limit limit → ¬ Rose opened.pump.coded.source.faults (S.seen result.source).faults
+        → OfSaid opened.pump.coded.source.content (λ said. KeptToLimit said limit result.report name.now (O.seen shelf.old) (O.seen shelf.new)) }
     ensures kept { KeptAtMost name.now (O.seen shelf.old) (O.seen shelf.new) }
     ensures write { result.outcome ≡ Outcome.WriteFault → Rose (O.seen shelf.old).faults (O.seen shelf.new).faults }
-    ensures read { result.outcome ≡ Outcome.ReadFault → Rose pump.coded.source.faults (S.seen result.source).faults }
+    ensures read { result.outcome ≡ Outcome.ReadFault → Rose opened.pump.coded.source.faults (S.seen result.source).faults }
     ensures shelf_later { (O.seen shelf.old).faults ≤ (O.seen shelf.new).faults }
-    ensures source { Unchanged pump.coded.source (S.seen result.source) }
+    ensures source { Unchanged opened.pump.coded.source (S.seen result.source) }
 {
     closed_file_means();
-    let mut pump = pump;
+    let Opened { mut pump, setup } = opened;
     match shelf.create(name) {
         Ok(sink) => {
-            let written = write_pump(alloc, &mut pump, sink);
+            let written = write_pump(alloc, &mut pump, setup, sink);
             shelf.keep(written.sink);
             RecordEnd {
                 source: pump.give_source(),
@@ -146,7 +184,7 @@ fn record_pump<S: Source, O: Shelf>(
 }
 
 /// Records an input into a file of this name on the shelf. The source comes back, and each file that was made is
-/// kept. So far an input is AAC of object type 2 at 48000 Hz with two channels, with times up to 2^30 microseconds.
+/// kept.
 pub fn record_one<S: Source, O: Shelf>(
     alloc: Global,
     source: S,
@@ -160,8 +198,8 @@ pub fn record_one<S: Source, O: Shelf>(
         → OfSaid (S.seen source).content (λ said. KeptToLimit said limit result.report name.now (O.seen shelf.old) (O.seen shelf.new)) }
     // Whatever happens, the earlier files stand, and at most one more after them.
     ensures kept { KeptAtMost name.now (O.seen shelf.old) (O.seen shelf.new) }
-    // Nothing is made of an input whose header is refused.
-    ensures header { (bytes : List ℕ) (fault : TrackFault) → (S.seen source).content ≡ Some bytes → (said_of bytes).header ≡ Some fault → shelf.new ≡ shelf.old }
+    // Nothing is made of an input whose header or setup is refused.
+    ensures header { (bytes : List ℕ) → (S.seen source).content ≡ Some bytes → (said_of bytes).setup ≡ None → shelf.new ≡ shelf.old }
     // Faults are told only where a count rose in this call.
     ensures write { result.outcome ≡ Outcome.WriteFault → Rose (O.seen shelf.old).faults (O.seen shelf.new).faults }
     ensures read { result.outcome ≡ Outcome.ReadFault → Rose (S.seen source).faults (S.seen result.source).faults }
@@ -172,7 +210,7 @@ pub fn record_one<S: Source, O: Shelf>(
     ensures source { Unchanged (S.seen source) (S.seen result.source) }
 {
     match begin(alloc, source) {
-        Ok(pump) => record_pump(alloc, pump, name, shelf),
+        Ok(opened) => record_pump(alloc, opened, name, shelf),
         Err((source, fault)) => RecordEnd {
             source,
             report: NO_FILE,

@@ -3,9 +3,9 @@ ghost use Rattle.sf_record.specs.Pumping.{Stands};
 
 use super::*;
 use sf_coded::{Coded, CodedFault};
+use sf_entry::make_entry;
 use sf_gather::{Options, SampleFault};
 use sf_list::Bytes;
-use sf_tick::Kind;
 use sf_world::{MemSource, Source};
 use std::alloc::{AllocError, Global};
 use std::test::Fail;
@@ -68,10 +68,10 @@ fn pump_of(
     let Ok(coded) = Coded::begin(alloc, MemSource::new(alloc, bytes, failing)) else {
         return None;
     };
-    if coded.setup().kind != Kind::Aac {
-        return None;
+    match make_entry(alloc, coded.setup()) {
+        Ok(setup) => Some(Pump::new(alloc, 3, coded, &setup, options)),
+        Err(_fault) => None,
     }
-    Some(Pump::new(alloc, 3, coded, 48_000, options))
 }
 
 // What came of an input.
@@ -185,19 +185,15 @@ fn a_refused_sample_is_told_with_the_place_of_its_tag(rt: HostRuntime) -> Result
 }
 
 #[test]
-fn a_time_above_the_greatest_is_not_taken_yet(rt: HostRuntime) -> Result<(), Fail> {
+fn times_are_taken_up_to_the_greatest(rt: HostRuntime) -> Result<(), Fail> {
     let alloc = rt.alloc();
-    let greatest = 1_073_741_824;
-    let bytes = input(alloc, &[0, greatest])?;
+    let greatest = 281_474_976_710_656;
+    let bytes = input(alloc, &[greatest])?;
     let found = outcome(alloc, bytes, Vec::new(alloc), 1_000_000)?;
-    assert!(rt; is_so(&found, &[1, 1], None));
+    assert!(rt; is_so(&found, &[1], None));
     let bytes = input(alloc, &[0, greatest + 1, 5])?;
     let found = outcome(alloc, bytes, Vec::new(alloc), 1_000_000)?;
-    let fault = TrackFault {
-        why: InputFault::NotYet,
-        place: 50,
-    };
-    assert!(rt; is_so(&found, &[1], Some(fault)));
+    assert!(rt; is_so(&found, &[1], sample_fault(SampleFault::TimeTooLarge, 50)));
     Ok(())
 }
 
@@ -229,18 +225,14 @@ fn a_sample_before_the_start_is_refused(rt: HostRuntime) -> Result<(), Fail> {
 }
 
 #[test]
-fn a_composition_time_above_the_greatest_is_not_taken_yet(rt: HostRuntime) -> Result<(), Fail> {
+fn a_composition_time_above_the_greatest_is_refused(rt: HostRuntime) -> Result<(), Fail> {
     let alloc = rt.alloc();
     let mut bytes = input(alloc, &[7])?;
     bytes.cut(50);
     // The decode time would fall, which is looked at later.
-    put_sample(&mut bytes, (3, 1_073_741_825), [0, 0, 0, 1], &[9])?;
+    put_sample(&mut bytes, (3, 281_474_976_710_657), [0, 0, 0, 1], &[9])?;
     let found = outcome(alloc, bytes, Vec::new(alloc), 0)?;
-    let fault = TrackFault {
-        why: InputFault::NotYet,
-        place: 50,
-    };
-    assert!(rt; is_so(&found, &[1], Some(fault)));
+    assert!(rt; is_so(&found, &[1], sample_fault(SampleFault::TimeTooLarge, 50)));
     Ok(())
 }
 

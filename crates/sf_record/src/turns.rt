@@ -4,18 +4,15 @@ ghost use Rattle.sf_gather.specs.declared.given.Given.{Given};
 ghost use Rattle.sf_gather.specs.Gathered.{Stands as GatherStands};
 ghost use Rattle.sf_world.specs.Counts.{Rose};
 ghost use Rattle.sf_world.specs.Views.{Unchanged};
-ghost use Rattle.sf_record.specs.Input.{is_late, read_fault};
+ghost use Rattle.sf_record.specs.Input.{read_fault};
 ghost use Rattle.sf_record.specs.Reading.{Fits, Reads, TurnReads, TurnFits, TurnGoes, weight, turn_weight};
 ghost use Rattle.sf_record.specs.inner.Going.{AdvancesTo, PutIn, AdvanceGoes, advance_weight};
 
-use crate::faults::{TrackFault, coded_fault, not_yet, sample_fault};
+use crate::faults::{TrackFault, coded_fault, sample_fault};
 use sf_coded::{Coded, CodedFault, CodedSample};
 use sf_gather::{Gather, SampleFault};
-use sf_tick::{Chunk, Sample};
+use sf_tick::Chunk;
 use sf_world::Source;
-
-/// The greatest time that is taken in this form, in microseconds.
-const GREATEST_US: u64 = 1 << 30;
 
 /// What comes next of an input.
 pub(crate) enum Turn {
@@ -32,13 +29,6 @@ pub(crate) enum Advance {
     /// Nothing more is taken, and why if the input isn't whole.
     Ended(Option<TrackFault>),
     NoMemory,
-}
-
-// Whether a time of a sample passes the greatest one.
-fn is_late(sample: &Sample) -> bool
-    ensures { result ≡ is_late sample.now }
-{
-    sample.dts_us > GREATEST_US || sample.pts_us > GREATEST_US
 }
 
 // What comes next: the sample that was held back, else the next one of the file.
@@ -74,9 +64,6 @@ fn put(gather: &mut Gather, held: &mut Option<CodedSample>, found: CodedSample) 
     requires held { held.old ≡ None }
     ensures { PutIn gather.old found gather.new held.new result }
 {
-    if is_late(&found.sample) {
-        return Advance::Ended(Some(not_yet(found.at)));
-    }
     let CodedSample { at, sample } = found;
     match gather.accept(sample) {
         Ok(closed) => Advance::Accepted(closed),

@@ -1,9 +1,11 @@
 //! A pump is written into a sink, which is then a closed file.
 
-ghost use Rattle.std.specs.Prelude.{◌≡◌, ℕ, ◌≤◌, ◌⊎◌, List, [], Option, None, Some, IfOk, IfErr, IsSome, MatchResult};
+ghost use Rattle.std.specs.Prelude.{◌≡◌, ℕ, ◌≤◌, ◌^◌, ◌⊎◌, List, [], length, Option, None, Some, IfOk, IfErr, IsSome, MatchResult};
 ghost use Rattle.sf_tick.specs.declared.types.Chunk.{Chunk};
 ghost use Rattle.sf_world.specs.Counts.{Rose};
 ghost use Rattle.sf_world.specs.Views.{Unchanged};
+ghost use Rattle.sf_entry.specs.declared.track_setup.TrackSetup.{TrackSetup};
+ghost use Rattle.sf_file.specs.Holdable.{IsReadable};
 ghost use Rattle.sf_file.specs.Open.{IsEmpty};
 ghost use Rattle.sf_record.specs.inner.Copying.{Goes};
 ghost use Rattle.sf_record.specs.inner.Holding.{Holds};
@@ -14,10 +16,10 @@ ghost use Rattle.sf_record.specs.inner.Written.{ClosedAtLimit, Closes, Ready, Wr
 ghost use Rattle.sf_record.specs.declared.limits.LimitShown.{LimitShown};
 
 use crate::copying::copy_chunks;
-use crate::form::entry;
 use crate::outcome::{NO_FILE, Outcome, Report, answer_to};
 use crate::pump::Pump;
 use crate::putting::PutFault;
+use sf_entry::TrackSetup;
 use sf_file::{FileFault, OutFile, no_chunks};
 use sf_world::{Sink, Source};
 use std::alloc::Global;
@@ -43,28 +45,30 @@ fn file_answer(fault: FileFault) -> Outcome
 }
 
 // Begins the file of a track in an empty sink.
-fn open_file<O: Sink>(alloc: Global, sink: O, scale: u32) -> Result<OutFile<O>, (O, FileFault)>
-    requires ticks { 1 ≤ scale }
-    requires rate { scale ≤ 1000000 }
-    ensures holds { IfOk result (λ f. Holds (O.seen sink).content scale [] f) }
+fn open_file<O: Sink>(
+    alloc: Global,
+    sink: O,
+    setup: TrackSetup,
+) -> Result<OutFile<O>, (O, FileFault)>
+    requires readable { IsReadable setup }
+    requires short { length setup.entry ≤ 2 ^ 27 }
+    ensures holds { IfOk result (λ f. Holds (O.seen sink).content setup [] f) }
     ensures later { MatchResult result (λ f. (O.seen sink).faults ≤ f.sink.faults) (λ e. (O.seen sink).faults ≤ (O.seen e.0).faults) }
     ensures failed { IfErr result (λ e. e.1 ≡ FileFault.WriteFault → Rose (O.seen sink).faults (O.seen e.0).faults) }
 {
     no_chunks();
-    let Ok(entry) = entry(alloc) else {
-        return Err((sink, FileFault::NoMemory));
-    };
-    OutFile::begin(alloc, sink, scale, entry)
+    OutFile::begin(alloc, sink, &[setup])
 }
 
 // Closes a file. A fault of the closing is told in place of the outcome.
 fn close_file<O: Sink>(file: OutFile<O>, outcome: Outcome) -> Written<O>
+    requires { 1 ≤ length file.tracks }
     ensures closed { Closes file outcome (O.seen result.sink).content result.report result.outcome (Rose file.sink.faults (O.seen result.sink).faults) }
     ensures later { file.sink.faults ≤ (O.seen result.sink).faults }
 {
     let report = Report {
         size: file.size(),
-        samples: file.samples(),
+        samples: file.samples(0),
     };
     match file.close() {
         Ok(sink) => Written {
@@ -95,15 +99,15 @@ fn give_up<O: Sink>(file: OutFile<O>, outcome: Outcome) -> Written<O>
 
 // Puts the chunks of a pump into a file, and closes it.
 fn write_file<S: Source, O: Sink>(pump: &mut Pump<S>, file: OutFile<O>) -> Written<O>
-    requires goes { (begun : Option (List ℕ)) × Goes pump.old.coded.source.content begun pump.old file }
+    requires goes { (begun : Option (List ℕ)) × (setup : TrackSetup) × Goes pump.old.coded.source.content begun setup pump.old file }
     requires live { NotEndedEarly pump.old }
     requires fault { pump.old.fault ≡ None }
-    ensures wrote { (begun : Option (List ℕ)) (scale : ℕ) → IsEmpty begun → pump.old.given ≡ given_at scale
-        → Goes pump.old.coded.source.content begun pump.old file
-        → Wrote pump.old.coded.source.content scale begun (O.seen result.sink).content result.report result.outcome }
+    ensures wrote { (begun : Option (List ℕ)) (setup : TrackSetup) → IsEmpty begun → pump.old.given ≡ given_at setup
+        → Goes pump.old.coded.source.content begun setup pump.old file
+        → Wrote pump.old.coded.source.content setup begun (O.seen result.sink).content result.report result.outcome }
     ensures limit { (limit : LimitShown) → result.outcome ≡ Outcome.Limit limit → ¬ Rose pump.old.coded.source.faults pump.new.coded.source.faults
-        → (begun : Option (List ℕ)) (scale : ℕ) → IsEmpty begun → pump.old.given ≡ given_at scale → Goes pump.old.coded.source.content begun pump.old file
-        → ClosedAtLimit pump.old.coded.source.content scale limit begun (O.seen result.sink).content result.report }
+        → (begun : Option (List ℕ)) (setup : TrackSetup) → IsEmpty begun → pump.old.given ≡ given_at setup → Goes pump.old.coded.source.content begun setup pump.old file
+        → ClosedAtLimit pump.old.coded.source.content setup limit begun (O.seen result.sink).content result.report }
     ensures write { result.outcome ≡ Outcome.WriteFault → Rose file.sink.faults (O.seen result.sink).faults }
     ensures read { result.outcome ≡ Outcome.ReadFault → Rose pump.old.coded.source.faults pump.new.coded.source.faults }
     ensures later { file.sink.faults ≤ (O.seen result.sink).faults }
@@ -118,23 +122,24 @@ fn write_file<S: Source, O: Sink>(pump: &mut Pump<S>, file: OutFile<O>) -> Writt
     }
 }
 
-/// Writes the file of a pump into an empty sink.
+/// Writes the file of a pump, whose track has this setup, into an empty sink.
 pub(crate) fn write_pump<S: Source, O: Sink>(
     alloc: Global,
     pump: &mut Pump<S>,
+    setup: TrackSetup,
     sink: O,
 ) -> Written<O>
-    requires ready { Ready pump.old.coded.source.content pump.old.given.scale pump.old }
+    requires ready { Ready pump.old.coded.source.content setup pump.old }
     requires empty { IsEmpty (O.seen sink).content }
-    ensures wrote { Wrote pump.old.coded.source.content pump.old.given.scale (O.seen sink).content (O.seen result.sink).content result.report result.outcome }
+    ensures wrote { Wrote pump.old.coded.source.content setup (O.seen sink).content (O.seen result.sink).content result.report result.outcome }
     ensures limit { (limit : LimitShown) → result.outcome ≡ Outcome.Limit limit → ¬ Rose pump.old.coded.source.faults pump.new.coded.source.faults
-        → ClosedAtLimit pump.old.coded.source.content pump.old.given.scale limit (O.seen sink).content (O.seen result.sink).content result.report }
+        → ClosedAtLimit pump.old.coded.source.content setup limit (O.seen sink).content (O.seen result.sink).content result.report }
     ensures write { result.outcome ≡ Outcome.WriteFault → Rose (O.seen sink).faults (O.seen result.sink).faults }
     ensures read { result.outcome ≡ Outcome.ReadFault → Rose pump.old.coded.source.faults pump.new.coded.source.faults }
     ensures later { (O.seen sink).faults ≤ (O.seen result.sink).faults }
     ensures source { Unchanged pump.old.coded.source pump.new.coded.source }
 {
-    match open_file(alloc, sink, pump.scale()) {
+    match open_file(alloc, sink, setup) {
         Ok(file) => write_file(pump, file),
         Err((sink, fault)) => Written {
             sink,

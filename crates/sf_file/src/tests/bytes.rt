@@ -36,27 +36,22 @@ const ONE_CHUNK: [u8; 640] = *b"\0\0\0\x18ftypmp42\0\0\0\0isommp42\
     \0\0\0\x14stco\0\0\0\0\0\0\0\x01\0\0\0\x28\
     \0\0\0\x18udta\0\0\0\x10sfts\0\0\0\0\0\0\0\0";
 
-/// What a file of chunks of samples with these times holds once it is closed, at 48000 ticks a second.
-fn written(alloc: Global, chunks: &[&[Times]]) -> Result<Bytes, Stop> {
-    let mut shelf = MemShelf::new(alloc, Vec::new(alloc));
-    write(alloc, &mut shelf, 48_000, chunks)?;
-    match shelf.file(0) {
-        Some(bytes) => Ok(Bytes::from_slice(alloc, bytes)?),
-        None => Err(Stop::Unfit),
-    }
+/// What a file of chunks of one track of sound holds, at 48000 ticks a second.
+fn of_sound(alloc: Global, chunks: &[Written<'_>]) -> Result<Bytes, Stop> {
+    written(alloc, &[sound(alloc, 48_000)?], chunks)
 }
 
 #[test]
 fn a_file_of_one_chunk_has_these_bytes(rt: HostRuntime) -> Result<(), Fail> {
-    let bytes = written(rt.alloc(), &[&THREE])?;
+    let bytes = of_sound(rt.alloc(), &[(0, &THREE)])?;
     assert_eq!(rt; bytes.as_slice(), ONE_CHUNK.as_slice());
     Ok(())
 }
 
-// Without samples stts lacks 8 bytes, stsc 12 and stco 4.
+// Without samples 8 bytes of stts are missing, 12 of stsc and 4 of stco.
 #[test]
 fn an_empty_file_has_a_movie_box_of_564_bytes(rt: HostRuntime) -> Result<(), Fail> {
-    let bytes = written(rt.alloc(), &[])?;
+    let bytes = of_sound(rt.alloc(), &[])?;
     assert_eq!(rt; bytes.len(), 604);
     assert!(rt;
         stand_at(
@@ -71,12 +66,12 @@ fn an_empty_file_has_a_movie_box_of_564_bytes(rt: HostRuntime) -> Result<(), Fai
     Ok(())
 }
 
-// The second chunk stands behind the 12 bytes of the first one, and 20 bytes of samples are in front
+// The second chunk stands after the 12 bytes of the first one, and 20 bytes of samples are in front
 // of the movie box. The fewest runs of stsc are two, and the last delta is the one before it.
 #[test]
-fn each_chunk_stands_behind_the_one_before_it(rt: HostRuntime) -> Result<(), Fail> {
+fn each_chunk_stands_after_the_one_before_it(rt: HostRuntime) -> Result<(), Fail> {
     let later = [(64_000, 3072), (85_333, 4096)];
-    let bytes = written(rt.alloc(), &[&THREE, &later])?;
+    let bytes = of_sound(rt.alloc(), &[(0, &THREE), (0, &later)])?;
     // stsc has another 12 bytes, stco another 4.
     assert_eq!(rt; bytes.len(), 640 + 8 + 12 + 4);
     assert!(rt; stand_at(bytes.as_slice(), 32, b"\0\0\0\0\0\0\0\x24"));
@@ -90,7 +85,10 @@ fn each_chunk_stands_behind_the_one_before_it(rt: HostRuntime) -> Result<(), Fai
 // 1000000 is 0xF4240.
 #[test]
 fn a_file_starts_with_its_first_sample(rt: HostRuntime) -> Result<(), Fail> {
-    let bytes = written(rt.alloc(), &[&[(1_000_000, 48_000), (1_021_333, 49_024)]])?;
+    let bytes = of_sound(
+        rt.alloc(),
+        &[(0, &[(1_000_000, 48_000), (1_021_333, 49_024)])],
+    )?;
     assert_eq!(rt; bytes.len(), 636);
     assert!(rt;
         stand_at(
@@ -108,12 +106,7 @@ fn a_file_starts_with_its_first_sample(rt: HostRuntime) -> Result<(), Fail> {
 /// microseconds, of which each is a tick.
 fn in_microseconds(alloc: Global, second: u64, third: u64) -> Result<Bytes, Stop> {
     let times = [(0, 0), (second, second), (third, third)];
-    let mut shelf = MemShelf::new(alloc, Vec::new(alloc));
-    write(alloc, &mut shelf, 1_000_000, &[&times])?;
-    match shelf.file(0) {
-        Some(bytes) => Ok(Bytes::from_slice(alloc, bytes)?),
-        None => Err(Stop::Unfit),
-    }
+    written(alloc, &[sound(alloc, 1_000_000)?], &[(0, &times)])
 }
 
 // The last delta is the one before it, and there are two deltas. So a file with samples at 0, 1 and
@@ -150,7 +143,7 @@ fn a_long_file_has_headers_of_version_1(rt: HostRuntime) -> Result<(), Fail> {
 // 2^32 microseconds are 206158430 ticks at 48000 ticks a second, so the media header stays short.
 #[test]
 fn each_header_is_long_by_its_own_ticks(rt: HostRuntime) -> Result<(), Fail> {
-    let bytes = written(rt.alloc(), &[&[(0, 0), (1 << 32, 206_158_430)]])?;
+    let bytes = of_sound(rt.alloc(), &[(0, &[(0, 0), (1 << 32, 206_158_430)])])?;
     assert_eq!(rt; bytes.len(), 40 + 8 + 588 + 24);
     assert!(rt; stand_at(bytes.as_slice(), 56, b"\0\0\0\x78mvhd\x01"));
     assert!(rt; stand_at(bytes.as_slice(), 184, b"\0\0\0\x68tkhd\x01"));

@@ -7,6 +7,7 @@ use super::*;
 #[test]
 fn each_write_of_a_file_fails(rt: HostRuntime) -> Result<(), Fail> {
     let alloc = rt.alloc();
+    let setups = [sound(alloc, 48_000)?];
     let fault = Err(Stop::Fault(FileFault::WriteFault));
     // The failing call, the answer, the length of what was written, and the last byte of the size.
     let rows: [(u64, Result<(), Stop>, usize, &[u8]); 5] = [
@@ -20,7 +21,7 @@ fn each_write_of_a_file_fails(rt: HostRuntime) -> Result<(), Fail> {
         let mut shelf = MemShelf::new(alloc, Vec::new(alloc));
         shelf.fail_on(1, call)?;
         assert_eq!(rt;
-            write(alloc, &mut shelf, 48_000, &[&THREE]),
+            write(alloc, &mut shelf, &setups, &[(0, &THREE)]),
             ended,
             "call {call}"
         );
@@ -37,11 +38,14 @@ fn a_failed_chunk_leaves_what_the_file_holds(rt: HostRuntime) -> Result<(), Fail
     let alloc = rt.alloc();
     let mut shelf = MemShelf::new(alloc, Vec::new(alloc));
     shelf.fail_on(1, 2)?;
-    let mut file = begun(alloc, &mut shelf)?;
-    append(&mut file, &chunk(alloc, &THREE)?)?;
+    let mut file = begun(alloc, &mut shelf, &[sound(alloc, 48_000)?])?;
+    append(&mut file, &chunk(alloc, 0, &THREE)?)?;
     let fault = Err(Stop::Fault(FileFault::WriteFault));
-    let later = chunk(alloc, &[(64_000, 3072)])?;
+    let later = chunk(alloc, 0, &[(64_000, 3072)])?;
     assert_eq!(rt; append(&mut file, &later), fault);
-    assert_eq!(rt; (file.size(), file.samples(), file.start_us()), (640, 3, 0));
+    assert_eq!(rt;
+        (file.size(), file.is_empty(), file.start_us()),
+        (640, false, 0)
+    );
     Ok(())
 }

@@ -19,13 +19,13 @@ fn given_chunk(alloc: Global, given: &[Given<'_>]) -> Result<Chunk, AllocError> 
             bytes: Bytes::from_slice(alloc, bytes)?,
         })?;
     }
-    Ok(chunk_of(samples))
+    Ok(chunk_of(0, samples))
 }
 
 /// What a file of chunks of such samples holds once it is closed, at 48000 ticks a second.
 fn closed(alloc: Global, chunks: &[&[Given<'_>]]) -> Result<Bytes, Stop> {
     let mut shelf = MemShelf::new(alloc, Vec::new(alloc));
-    let mut file = begun(alloc, &mut shelf)?;
+    let mut file = begun(alloc, &mut shelf, &[sound(alloc, 48_000)?])?;
     for given in chunks {
         append(&mut file, &given_chunk(alloc, given)?)?;
     }

@@ -4,13 +4,14 @@ use super::*;
 
 #[test]
 fn a_file_tells_its_size_before_and_after_a_chunk(rt: HostRuntime) -> Result<(), Fail> {
-    let mut shelf = MemShelf::new(rt.alloc(), Vec::new(rt.alloc()));
-    let mut file = begun(rt.alloc(), &mut shelf)?;
+    let alloc = rt.alloc();
+    let mut shelf = MemShelf::new(alloc, Vec::new(alloc));
+    let mut file = begun(alloc, &mut shelf, &[sound(alloc, 48_000)?])?;
     assert_eq!(rt;
         (file.size(), file.start_us(), file.is_empty()),
         (604, 0, true)
     );
-    let first = append(&mut file, &chunk(rt.alloc(), &THREE)?)?;
+    let first = append(&mut file, &chunk(alloc, 0, &THREE)?)?;
     let wanted = Closing {
         bytes: 640,
         movie_box: 588,
@@ -22,7 +23,7 @@ fn a_file_tells_its_size_before_and_after_a_chunk(rt: HostRuntime) -> Result<(),
         (640, 0, false)
     );
     // A second chunk of one sample adds its 4 bytes, 12 to stsc and 4 to stco.
-    let second = append(&mut file, &chunk(rt.alloc(), &[(64_000, 3072)])?)?;
+    let second = append(&mut file, &chunk(alloc, 0, &[(64_000, 3072)])?)?;
     let wanted = Closing {
         bytes: 660,
         movie_box: 604,
@@ -35,10 +36,11 @@ fn a_file_tells_its_size_before_and_after_a_chunk(rt: HostRuntime) -> Result<(),
 
 #[test]
 fn a_file_starts_with_its_first_chunk(rt: HostRuntime) -> Result<(), Fail> {
-    let mut shelf = MemShelf::new(rt.alloc(), Vec::new(rt.alloc()));
-    let mut file = begun(rt.alloc(), &mut shelf)?;
-    append(&mut file, &chunk(rt.alloc(), &[(1_000_000, 48_000)])?)?;
-    append(&mut file, &chunk(rt.alloc(), &[(1_021_333, 49_024)])?)?;
+    let alloc = rt.alloc();
+    let mut shelf = MemShelf::new(alloc, Vec::new(alloc));
+    let mut file = begun(alloc, &mut shelf, &[sound(alloc, 48_000)?])?;
+    append(&mut file, &chunk(alloc, 0, &[(1_000_000, 48_000)])?)?;
+    append(&mut file, &chunk(alloc, 0, &[(1_021_333, 49_024)])?)?;
     assert_eq!(rt; file.start_us(), 1_000_000);
     Ok(())
 }

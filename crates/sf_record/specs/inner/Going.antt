@@ -1,5 +1,5 @@
 -- What one step along an input makes of a gatherer.
-use Rattle.std.specs.Prelude.{◌≡◌, ℕ, ◌+◌, ◌^◌, ◌≤◌, Bool, false, List, [], ◌∷◌, ◌++◌, Option, Some, None, IsSome, ⊤}
+use Rattle.std.specs.Prelude.{◌≡◌, ℕ, ◌+◌, ◌≤◌, Bool, false, List, [], ◌∷◌, ◌++◌, Option, Some, None, IsSome, ⊤}
 use Rattle.std.specs.Option.{option_to_list}
 use Rattle.sf_tick.specs.declared.types.Chunk.{Chunk}
 use Rattle.sf_tick.specs.declared.types.Setup.{Setup}
@@ -34,7 +34,6 @@ PutIn old found new held NoMemory = (held ≡ Some found) × (new ≡ old)
 -- A sample was accepted behind the others, as it is stored, and closes this chunk, if any.
 pub record OneMore (contents : Option (List ℕ)) (given : Given) (accepted : List Stored) (gatherer : Gathered) (setup : Setup) (place : ℕ) (held : Option CodedSample) (chunk : Option Chunk) : Type 0 where
   pub sample : Stored
-  pub early : sample.dts_us ≤ 2 ^ 30
   pub stands : GatherStands (accepted ++ sample ∷ []) gatherer
   pub reads : Reads contents given (accepted ++ sample ∷ []) setup place held
   pub grows : closed given (accepted ++ sample ∷ []) ≡ closed given accepted ++ option_to_list chunk

@@ -1,6 +1,8 @@
 //! Inputs that are recorded into a file of a shelf.
 
 use super::*;
+use sf_avc::{ConfigFault, NalFault};
+use sf_entry::{AscFault, SetupFault};
 use sf_world::{MemShelf, MemSource};
 use std::test::Fail;
 
@@ -60,7 +62,7 @@ fn an_input_without_samples_gives_an_empty_file(rt: HostRuntime) -> Result<(), F
 }
 
 // The headers that are refused, each by one byte that differs, why, and at which place.
-const REFUSED: [([u8; 24], InputFault, u64); 5] = [
+const REFUSED: [([u8; 24], InputFault, u64); 4] = [
     (
         *b"TFCS\0\x01\0\x02\0\0\0\0\0\0\0\0\0\x02\0\0\0\x02\x11\x90",
         InputFault::Coded(CodedFault::Magic),
@@ -68,23 +70,18 @@ const REFUSED: [([u8; 24], InputFault, u64); 5] = [
     ),
     (
         *b"SFCS\0\x01\0\x01\0\0\0\0\0\0\0\0\0\x02\0\0\0\x02\x11\x90",
-        InputFault::NotYet,
-        6,
+        InputFault::Setup(SetupFault::Avc(ConfigFault::Nal(NalFault::NoStart))),
+        22,
     ),
-    // 1,000,001 ticks a second.
+    // The frequency index 13, and no channels.
     (
-        *b"SFCS\0\x01\0\x02\0\x0F\x42\x41\0\0\0\0\0\x02\0\0\0\x02\x11\x90",
-        InputFault::NotYet,
-        8,
-    ),
-    (
-        *b"SFCS\0\x01\0\x02\0\0\0\0\0\0\0\0\0\x01\0\0\0\x02\x11\x90",
-        InputFault::NotYet,
+        *b"SFCS\0\x01\0\x02\0\0\0\0\0\0\0\0\0\x02\0\0\0\x02\x16\x90",
+        InputFault::Setup(SetupFault::Aac(AscFault::Index(13))),
         22,
     ),
     (
-        *b"SFCS\0\x01\0\x02\0\0\0\0\0\0\0\0\0\x02\0\0\0\x02\x11\x88",
-        InputFault::NotYet,
+        *b"SFCS\0\x01\0\x02\0\0\0\0\0\0\0\0\0\x02\0\0\0\x02\x11\x80",
+        InputFault::Setup(SetupFault::Aac(AscFault::Channels(0))),
         22,
     ),
 ];

@@ -1,4 +1,4 @@
-use Rattle.sf_file.proofs.HoldableGrows.{nothing_holdable}
+use Rattle.sf_file.proofs.Holdable.{nothing_holdable}
 use Rattle.sf_file.proofs.laws.no_chunks.Goals as goal
 
 pub returns : goal.returns

@@ -1,4 +1,4 @@
-use Rattle.sf_file.proofs.HoldableGrows.{stands_holdable}
+use Rattle.sf_file.proofs.Holdable.{stands_holdable}
 use Rattle.sf_file.proofs.laws.one_more_appended.Goals as goal
 
 pub returns : goal.returns

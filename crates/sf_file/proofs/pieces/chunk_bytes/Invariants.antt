@@ -1,5 +1,5 @@
 use Rattle.std.proofs.Common.{◌≡◌, take}
-use Rattle.sf_meaning.specs.Layout.{stored_bytes}
+use Rattle.sf_layout.specs.Layout.{stored_bytes}
 use Rattle.sf_file.proofs.pieces.chunk_bytes.Given as goal
 
 abbrev pub invariant-loop-sample : goal.invariant-loop-sample

@@ -12,8 +12,8 @@ loop-preserved g c =
     let t = c.in_ok-copy_turn.ensures in
     let yes = ap (λ (b : Bool). Ok b) c.if-branch.true in
     record {
-      some = (i.some.0, subst (λ (s : Option (List ℕ)). Goes s i.some.0 c.copy_turn.new.pump c.copy_turn.new.file) (sym t.source.content) (turn_goes refl i.some.1 (t.goes yes i.some.0)));
-      goes = λ begun h. turn_goes i.source.content (i.goes begun h) (t.goes yes begun);
+      some = (i.some.0, i.some.1, subst (λ (s : Option (List ℕ)). Goes s i.some.0 i.some.1 c.copy_turn.new.pump c.copy_turn.new.file) (sym t.source.content) (turn_goes refl i.some.2 (t.goes yes i.some.0 i.some.1)));
+      goes = λ begun setup h. turn_goes i.source.content (i.goes begun setup h) (t.goes yes begun setup);
       source = record { content = t.source.content ∙ i.source.content; size = t.source.size ∙ i.source.size; later = omega (arith, i.source.later, t.source.later) };
       given = t.given ∙ i.given;
       source_failed = λ e. failed_turn _ _ _ i.source_failed t.source_failed i.source.later t.source.later e;
@@ -22,13 +22,13 @@ loop-preserved g c =
     }
 
 pub returns-clause-done : goal.returns-clause-done
-returns-clause-done g c begun h =
+returns-clause-done g c begun setup h =
     let i = c.loop.invariant in
-    turn_same (λ (s : Option (List ℕ)) (accepted : List Stored). Copied s begun accepted c.copy_turn.new.pump c.copy_turn.new.file) i.source.content (i.goes begun h)
-    (c.in_ok-copy_turn.ensures.done (ap (λ (b : Bool). Ok b) c.if-branch.false) begun)
+    turn_same (λ (s : Option (List ℕ)) (accepted : List Stored). Copied s begun setup accepted c.copy_turn.new.pump c.copy_turn.new.file) i.source.content (i.goes begun setup h)
+    (c.in_ok-copy_turn.ensures.done (ap (λ (b : Bool). Ok b) c.if-branch.false) begun setup)
 
 pub returns-in_err-copy_turn-clause-limit : goal.returns-in_err-copy_turn-clause-limit
-returns-in_err-copy_turn-clause-limit g c limit e begun h =
+returns-in_err-copy_turn-clause-limit g c limit e begun setup h =
     let i = c.loop.invariant in
-    turn_same (λ (s : Option (List ℕ)) (accepted : List Stored). Limited s begun accepted limit c.copy_turn.new.pump c.copy_turn.new.file) i.source.content (i.goes begun h)
-    (c.in_err-copy_turn.ensures.limit limit (handed_on c.from_residual.ensures.1 e) begun)
+    turn_same (λ (s : Option (List ℕ)) (accepted : List Stored). Limited s begun setup accepted limit c.copy_turn.new.pump c.copy_turn.new.file) i.source.content (i.goes begun setup h)
+    (c.in_err-copy_turn.ensures.limit limit (handed_on c.from_residual.ensures.1 e) begun setup)

@@ -1,5 +1,5 @@
 use Rattle.std.proofs.Common.{◌∙◌}
-use Rattle.sf_record.proofs.Recordings.{complete_told, header_none, header_recorded}
+use Rattle.sf_record.proofs.Recordings.{complete_told, header_recorded, setup_some}
 use Rattle.sf_record.proofs.recording.record_one.Goals as goal
 
 pub returns-in-Err-clause-recorded : goal.returns-in-Err-clause-recorded
@@ -16,4 +16,4 @@ returns-in-Err-clause-complete g c bytes told no_read no_write =
 
 pub returns-in-Ok-clause-header : goal.returns-in-Ok-clause-header
 returns-in-Ok-clause-header g c =
-    λ bytes fault told wrong. absurd (header_none _ _ c.in-Ok.ensures.ready.header bytes fault (c.in-Ok.ensures.source.content ∙ told) wrong)
+    λ bytes told wrong. absurd (setup_some _ _ c.in-Ok.ensures.ready.header bytes (c.in-Ok.ensures.source.content ∙ told) wrong)

@@ -1,16 +1,14 @@
-use Rattle.std.proofs.Common.{◌≡◌, ℕ, Option, Some, None, refl, ap, ◌∙◌}
+use Rattle.std.proofs.Common.{ℕ, List, Option, ap, ◌∙◌}
 use Rattle.std.specs.Option.{unwrap_or}
-use Rattle.sf_tick.specs.Samples.{samples_of}
-use Rattle.sf_file.specs.Open.{OpenFile, start_of}
-use Rattle.sf_file.proofs.ClosedFile.{start_first}
+use Rattle.sf_layout.specs.Layout.{start_of}
+use Rattle.sf_file.specs.Open.{OpenFile, rows_in}
+use Rattle.sf_file.specs.inner.Tracks.{KeptTrack, held_in}
+use Rattle.sf_file.proofs.ClosedFile.{stands_rows}
 use Rattle.sf_file.proofs.out_file.OutFile.start_us.Goals as goal
-
-unwrapped : (us : Option ℕ) → unwrap_or us 0 ≡ start_of us
-unwrapped None = refl
-unwrapped (Some us) = refl
 
 pub returns-clause-whole : goal.returns-clause-whole
 returns-clause-whole g c begun chunks s =
-    c.unwrap_or.ensures ∙ unwrapped c.first_dts.result
-    ∙ ap start_of (c.first_dts.ensures ∙ ap (λ (f : OpenFile). f.tables.first_dts) c.self.view_is ∙ s.first)
-    ∙ start_first (samples_of chunks)
+    c.unwrap_or.ensures ∙ ap (λ (o : Option ℕ). unwrap_or o 0) c.earliest.ensures
+    ∙ ap (λ (ks : List KeptTrack). start_of (rows_in (held_in ks))) c.deref.ensures.value
+    ∙ ap (λ (f : OpenFile). start_of (rows_in f.tracks)) c.self.view_is
+    ∙ ap start_of (stands_rows s)

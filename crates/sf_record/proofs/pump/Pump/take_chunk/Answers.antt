@@ -3,17 +3,8 @@ use Rattle.sf_tick.specs.declared.types.Chunk.{Chunk}
 use Rattle.sf_tick.specs.declared.types.Stored.{Stored}
 use Rattle.sf_gather.specs.declared.given.Given.{Given}
 use Rattle.sf_gather.specs.Chunks.{chunks, closed}
-use Rattle.sf_tick.specs.Samples.{samples_of}
-use Rattle.sf_record.proofs.Early.{chunk_early, chunk_stays}
+use Rattle.sf_record.proofs.Staying.{chunk_stays}
 use Rattle.sf_record.proofs.pump.Pump.take_chunk.Goals as goal
-
-pub returns-clause-early : goal.returns-clause-early
-returns-clause-early g c =
-    λ accepted taken stands.
-    let pump = c.args.self.now in
-    let held : pump.chunk ≡ c.take.result = sym (ap (λ p. p.chunk) c.self.view_is) ∙ sym c.take.ensures.value in
-    let P : Given → Type 0 = λ given. (samples : List Stored) → samples_of (chunks given samples) ≡ samples in
-    chunk_early _ accepted taken pump c.take.result held (subst P (ap (λ p. p.given) c.self.view_is) c.proper_chunks.ensures.samples) stands
 
 pub returns-clause-stays : goal.returns-clause-stays
 returns-clause-stays g c =

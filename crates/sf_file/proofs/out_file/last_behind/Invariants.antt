@@ -1,6 +1,0 @@
-use Rattle.std.proofs.Common.{◌≡◌, take}
-use Rattle.sf_gather.specs.Accepting.{last_from}
-use Rattle.sf_file.proofs.out_file.last_behind.Given as goal
-
-abbrev pub invariant-loop-sample : goal.invariant-loop-sample
-invariant-loop-sample l = l.last ≡ last_from l.fn.before (take l.sample-index l.samples)
