@@ -1,22 +1,16 @@
 -- The walk along the boxes of a file, and the movie that its movie box is.
-use Rattle.std.proofs.Common.{◌≡◌, ◌≢◌, ℕ, ◌+◌, ◌-◌, ◌<◌, ◌≤◌, ◌==◌, min, not, Bool, true, false, ◌⊎◌, inl, inr, List, [], ◌∷◌, ◌++◌, length, take, drop, codes, Option, Some, Result, Ok, Err, refl, ap, sym, subst, ◌∙◌, arith}
+use Rattle.std.proofs.Common.{◌≡◌, ◌≢◌, ℕ, ◌+◌, ◌-◌, ◌<◌, ◌≤◌, min, true, ◌⊎◌, inl, inr, List, [], ◌∷◌, ◌++◌, length, take, drop, codes, Option, Some, Result, Ok, Err, refl, ap, sym, subst, ◌∙◌, arith}
 use Rattle.std.proofs.lemmas.List.{length-drop, drop-drop, drop-take}
-use Rattle.std.proofs.lemmas.Bool.Decides.{nat_tests}
 use Rattle.std.proofs.Math.Seq.{take-length}
-use Rattle.sf_box.specs.Boxes.{word32, Piece, head_in, head_of, piece_of, boxes, joined_with}
+use Rattle.sf_box.specs.Boxes.{Piece, head_in, head_of, piece_of, boxes, joined_with}
 use Rattle.sf_box.specs.declared.types.BoxHead.{BoxHead}
 use Rattle.sf_box.specs.declared.types.BoxFault.{BoxFault}
 use Rattle.sf_box.proofs.BoxLaws.{box_end, box_step, boxes_fault, first_tells}
-use Rattle.sf_meaning.specs.Steps.{◌>>=◌, ◌>>◌, as_fault, body_at, check, of_kind}
-use Rattle.sf_meaning.specs.Movie.{Step, in_moov, movie, movie_header, movie_in, only_moov, scale_place, start_in, timescale_in, top_boxes, tracks_in, tracks_of}
+use Rattle.sf_meaning.specs.Steps.{◌>>=◌, as_fault, body_at, of_kind}
+use Rattle.sf_meaning.specs.Movie.{Step, movie, movie_in, only_moov, top_boxes}
 use Rattle.sf_meaning.specs.declared.faults.MovieFault.{MovieFault}
-use Rattle.sf_meaning.specs.declared.faults.MovieFault.TheVariants.{Head, Tiling}
+use Rattle.sf_meaning.specs.declared.faults.MovieFault.TheVariants.{Tiling}
 use Rattle.sf_meaning.specs.declared.faults.MovieFault.TheVariants as movies
-use Rattle.sf_meaning.specs.declared.faults.HeadFault.TheVariants as heads
-use Rattle.sf_meaning.specs.declared.movie.PlainTrack.{PlainTrack}
-use Rattle.sf_box.specs.Parts.{child_piece}
-use Rattle.std.specs.Prelude.{nat_le}
-use Rattle.sf_meaning.specs.Form.{moov_form}
 use Rattle.sf_meaning.specs.declared.movie.PlainMovie.{PlainMovie}
 use Rattle.sf_world.specs.Contents.{HasLength, ReadsAt}
 use Rattle.sf_app.specs.inner.Load.{IsCaused, Reads}
@@ -169,63 +163,3 @@ pub fault_cause : (fault : MovieFault) (r : LoadFault) (before after : ℕ) → 
 fault_cause fault r before after is free =
     let Caused : LoadFault → Type 0 = λ x. IsCaused {A = PlainMovie} before after (Err x) in
     elim is [ inl e ↦ subst Caused (sym e) tt | inr e ↦ subst Caused (sym e) (λ none. free (e ∙ ap (λ (f : MovieFault). Refused f) none)) ]
-
--- a step that succeeded came from steps that did
-bind_ok : {A B E : Type 0} (r : Result A E) (f : A → Result B E) (y : B) → (r >>= f) ≡ Ok y → (x : A) × (r ≡ Ok x) × (f x ≡ Ok y)
-bind_ok (Ok x) f y e = (x, refl, e)
-bind_ok (Err e') f y e = absurd (cc e)
-
-then_ok : {A B E : Type 0} (r : Result A E) (q : Result B E) (y : B) → (r >> q) ≡ Ok y → q ≡ Ok y
-then_ok (Ok x) q y e = e
-then_ok (Err e') q y e = absurd (cc e)
-
-checked : {B E : Type 0} (b : Bool) (fault : E) (q : Result B E) (y : B) → (check b fault >> q) ≡ Ok y → b ≡ true
-checked true fault q y e = refl
-checked false fault q y e = absurd (cc e)
-
-not_0 : (n : ℕ) → not (n == 0) ≡ true → 1 ≤ n
-not_0 n e = grind (arith, nat_tests)
-
-scale_some : (p : Piece) (scale : ℕ) → timescale_in p ≡ Ok scale → 1 ≤ scale
-unfolding timescale_in
-scale_some p scale e =
-    let n : ℕ = word32 (drop (scale_place p.body) p.body) in
-    let whole : Bool = nat_le (scale_place p.body + 4) (length p.body) in
-    let short : MovieFault = Head (heads.Short p.head.kind p.head.at) in
-    let none : MovieFault = Head (heads.Scale0 p.head.at) in
-    let q : (check (not (n == 0)) none >> Ok n) ≡ Ok scale = then_ok (check whole short) (check (not (n == 0)) none >> Ok n) scale e in
-    let some : 1 ≤ n = not_0 n (checked (not (n == 0)) none (Ok n) scale q) in
-    let same : Ok n ≡ Ok scale = then_ok (check (not (n == 0)) none) (Ok n) scale q in
-    let is : n ≡ scale = cc same in
-    omega arith
-
--- the steps of a movie box, from the last to the first
-abbrev with_tracks : List Piece → ℕ → List PlainTrack → Step PlainMovie
-with_tracks ps scale tracks = Ok (record { scale = scale; start_us = start_in (child_piece ps (codes "udta")); tracks = tracks })
-
-abbrev with_scale : ℕ → List Piece → List Piece → ℕ → Step PlainMovie
-with_scale end ps traks scale = tracks_in end 0 traks >>= with_tracks ps scale
-
-abbrev with_header : ℕ → List Piece → List Piece → Piece → Step PlainMovie
-with_header end ps traks mvhd = timescale_in mvhd >>= with_scale end ps traks
-
-abbrev with_traks : ℕ → ℕ → List Piece → List Piece → Step PlainMovie
-with_traks at end ps traks = movie_header ps at >>= with_header end ps traks
-
-abbrev with_boxes : ℕ → ℕ → List Piece → Step PlainMovie
-with_boxes at end ps = tracks_of ps >>= with_traks at end ps
-
-same_scale : (x y : PlainMovie) (r : Step PlainMovie) → r ≡ Ok x → r ≡ Ok y → x.scale ≡ y.scale
-same_scale x y r e f = cc
-
--- the timescale of a movie is never 0
-pub movie_scale : (body : List ℕ) (at end : ℕ) (it : PlainMovie) → movie_in body at end ≡ Ok it → 1 ≤ it.scale
-unfolding movie_in
-movie_scale body at end it e =
-    let a = bind_ok (in_moov body at) (with_boxes at end) it (then_ok (moov_form body at) (in_moov body at >>= with_boxes at end) it e) in
-    let b = bind_ok (tracks_of a.0) (with_traks at end a.0) it a.2 in
-    let c = bind_ok (movie_header a.0 at) (with_header end a.0 b.0) it b.2 in
-    let d = bind_ok (timescale_in c.0) (with_scale end a.0 b.0) it c.2 in
-    let f = bind_ok (tracks_in end 0 b.0) (with_tracks a.0 d.0) it d.2 in
-    let s : d.0 ≡ it.scale = same_scale _ it (with_tracks a.0 d.0 f.0) refl f.2 in
-    omega (arith, scale_some c.0 d.0 d.1)

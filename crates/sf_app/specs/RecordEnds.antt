@@ -1,10 +1,9 @@
 -- How the recording of an input ends.
-use Rattle.std.specs.Prelude.{◌≡◌, ℕ, ◌⊎◌, List, codes, Option, Some, Result, Ok, Err}
+use Rattle.std.specs.Prelude.{◌≡◌, ℕ, ◌⊎◌, List, codes, Option, Some, None, Result, Ok, Err}
 use Rattle.sf_world.specs.Counts.{Rose}
 use Rattle.sf_world.specs.Views.{FailsWithin, Gains, GivenBack, InputsView, KeptAtMost, NotAsked, Says, ShelfView, SinkView}
 use Rattle.sf_record.specs.Recorded.{KeptToLimit, Recorded, answer_for}
 use Rattle.sf_record.specs.Said.{OfSaid, Said, said_of}
-use Rattle.sf_record.specs.declared.faults.TrackFault.{TrackFault}
 use Rattle.sf_record.specs.declared.limits.LimitShown.{LimitShown}
 use Rattle.sf_record.specs.declared.outcome.Outcome.{Outcome}
 use Rattle.sf_record.specs.declared.outcome.Outcome.TheVariants as outcomes
@@ -95,8 +94,8 @@ Answered (Err status) said = (status ≡ NoMemory) ⊎ (status ≡ status_of (an
 pub record RecordEnds (name : List ℕ) (result : Status) (b a : Outside) : Type 0 where
   pub ends : TellsReport name result b a ⊎ TellsAnswer name result b a
   pub inputs : KeepInputs b.inputs a.inputs
-  -- Nothing is made of an input whose header is refused.
-  pub header : (bytes : List ℕ) (fault : TrackFault) → b.inputs.holds name ≡ Some bytes → (said_of bytes).header ≡ Some fault → a.shelf ≡ b.shelf
+  -- Nothing is made of an input whose header or setup is refused.
+  pub header : (bytes : List ℕ) → b.inputs.holds name ≡ Some bytes → (said_of bytes).setup ≡ None → a.shelf ≡ b.shelf
   -- Where no count rose, the answer is the one that the input's bytes call for, or want of memory.
   pub complete : (bytes : List ℕ) → b.inputs.holds name ≡ Some bytes
       → ¬ Rose b.inputs.misses a.inputs.misses → ¬ Rose b.inputs.faults a.inputs.faults

@@ -17,6 +17,7 @@ mod words;
 pub use movie::{ListFault, list_movie};
 pub use program::run;
 pub use sf_coded::CodedFault;
+pub use sf_entry::SetupFault;
 pub use sf_gather::SampleFault;
 pub use sf_meaning::MovieFault;
 pub use sf_record::{InputFault, LimitShown, TrackFault};

@@ -1,11 +1,10 @@
 //! The command `record`.
 
-ghost use Rattle.std.specs.Prelude.{◌≡◌, ◌⊎◌, ℕ, List, Some, Ok, Err};
+ghost use Rattle.std.specs.Prelude.{◌≡◌, ◌⊎◌, ℕ, List, Some, None, Ok, Err};
 ghost use Rattle.sf_app.specs.AnswerText.{done_lines};
 ghost use Rattle.sf_app.specs.Outside.{KeepInputs, outside_of};
 ghost use Rattle.sf_app.specs.RecordEnds.{Performs, RecordEnds, TellsDone, Answered, answered};
 ghost use Rattle.sf_record.specs.Said.{said_of};
-ghost use Rattle.sf_record.specs.declared.faults.TrackFault.{TrackFault};
 ghost use Rattle.sf_world.specs.Counts.{Rose};
 
 use super::Status;
@@ -37,8 +36,8 @@ fn record_input<I: Inputs, O: Shelf>(
 ) -> Result<Report, Status>
     ensures performs { Performs name.now result (I.seen inputs.old) (I.seen inputs.new) (O.seen shelf.old) (O.seen shelf.new) }
     ensures inputs { KeepInputs (I.seen inputs.old) (I.seen inputs.new) }
-    ensures header { (bytes : List ℕ) (fault : TrackFault) → (I.seen inputs.old).holds name.now ≡ Some bytes
-        → (said_of bytes).header ≡ Some fault → O.seen shelf.new ≡ O.seen shelf.old }
+    ensures header { (bytes : List ℕ) → (I.seen inputs.old).holds name.now ≡ Some bytes
+        → (said_of bytes).setup ≡ None → O.seen shelf.new ≡ O.seen shelf.old }
     ensures complete { (bytes : List ℕ) → (I.seen inputs.old).holds name.now ≡ Some bytes
         → ¬ Rose (I.seen inputs.old).misses (I.seen inputs.new).misses → ¬ Rose (I.seen inputs.old).faults (I.seen inputs.new).faults
         → ¬ Rose (O.seen shelf.old).faults (O.seen shelf.new).faults → Answered result (said_of bytes) }

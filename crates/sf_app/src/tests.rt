@@ -8,10 +8,12 @@ use std::alloc::{AllocError, Global};
 mod failures;
 mod inputs;
 mod listing;
+mod movies;
 mod refusals;
 mod sizes;
 mod tables;
 mod texts;
+mod video;
 mod words;
 
 /// A coded sample file of 103 bytes: its header, three samples of four bytes at 0, 21333 and 42667

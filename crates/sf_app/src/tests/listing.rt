@@ -1,13 +1,10 @@
 //! The list of a movie, over sources and texts in memory.
 
-ghost use Rattle.std.specs.Prelude.{◌≡◌, None, length, refl};
-ghost use Rattle.std.proofs.Common.{lit<};
-
 use super::inputs::FILE;
 use super::*;
 use sf_box::{BoxFault, FourCc};
 use sf_meaning::{HeadFault, MovieFault, TableFault};
-use sf_world::{Denied, Failed, Fits, Measure, MemSource, Shelf, Sink, Source};
+use sf_world::{HoleSource, MemSource, Shelf};
 use std::test::Fail;
 
 /// The list of the file of three samples.
@@ -138,68 +135,6 @@ fn a_file_that_is_cut_short_is_refused_at_its_box(rt: HostRuntime) -> Result<(),
     Ok(())
 }
 
-/// A source of 5 GiB and more whose bytes are 0 but for those of two pieces, the second of which ends it.
-#[derive(Drop)]
-struct HoleSource {
-    front: Bytes,
-    length: u64,
-    back: Bytes,
-}
-
-impl Fits for HoleSource {
-    ghost fits = { λ source name. (source.length ≡ name.length) × (None ≡ name.content) };
-}
-
-impl Measure for HoleSource {
-    ghost measure = { λ source. 0 };
-}
-
-/// Copies bytes that stand at a place over those of a buffer that stand at another.
-fn copy_over(bytes: &[u8], place: u64, at: u64, into: &mut [u8])
-    ensures { length into.new ≡ length into.old }
-{
-    for index in 0..into.len() {
-        let here = at.saturating_add(index as u64);
-        if here >= place {
-            if let Some(byte) = bytes.get((here - place) as usize) {
-                into[index] = *byte;
-            }
-        }
-    }
-}
-
-impl Source for HoleSource {
-    ghost seen = { λ source. record { content = None; size = source.length; faults = 0 } };
-
-    ghost whole = { λ source. tt };
-
-    ghost bounded = { λ source. lit< tt };
-
-    ghost counted = { λ source. refl };
-
-    ghost fitting = { λ source name fits. fits };
-
-    ghost fits_if = { λ source name fits. fits };
-
-    fn length(&self) -> u64 {
-        self.length
-    }
-
-    fn read_at(&mut self, at: u64, into: &mut [u8]) -> Result<usize, Failed> {
-        if at >= self.length {
-            return Ok(0);
-        }
-        let count = (into.len() as u64).min(self.length - at);
-        for byte in into.iter_mut() {
-            *byte = 0;
-        }
-        let last = self.length.saturating_sub(self.back.len() as u64);
-        copy_over(self.front.as_slice(), 0, at, into);
-        copy_over(self.back.as_slice(), last, at, into);
-        Ok(count as usize)
-    }
-}
-
 // The body of mdat has 5 GiB: its box has 5368709136 bytes, which is 1_4000_0010 in hexadecimal.
 #[test]
 fn a_media_data_box_of_5_gib_is_passed_over(rt: HostRuntime) -> Result<(), Fail> {
@@ -207,11 +142,11 @@ fn a_media_data_box_of_5_gib_is_passed_over(rt: HostRuntime) -> Result<(), Fail>
     let mut front = Bytes::from_slice(alloc, &FILE[..24])?;
     front.append(b"\0\0\0\x01mdat\0\0\0\x01\x40\0\0\x10")?;
     let back = Bytes::from_slice(alloc, &FILE[52..])?;
-    let mut source = HoleSource {
-        front,
-        length: 24 + 5_368_709_136 + 588,
-        back,
-    };
+    let end = 24 + 5_368_709_136;
+    let mut pieces = Vec::new(alloc);
+    pieces.push((0, front))?;
+    pieces.push((end, back))?;
+    let mut source = HoleSource::new(alloc, end + 588, pieces);
     let mut text = MemText::new(alloc);
     assert_eq!(rt; list_movie(alloc, &mut source, &mut text), Ok(()));
     assert_eq!(rt; text.bytes(), LINES);

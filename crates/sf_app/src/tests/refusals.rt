@@ -1,6 +1,8 @@
-//! Inputs that leave the form.
+//! Inputs that are refused.
 
 use super::*;
+use sf_avc::{ConfigFault, NalFault};
+use sf_entry::{AscFault, SetupFault};
 use std::test::Fail;
 
 /// The input with some bytes put in place of its own.
@@ -24,7 +26,8 @@ fn each_refusal_of_a_header_names_its_field_and_makes_no_file(rt: HostRuntime) -
     let alloc = rt.alloc();
     let long = CodedFault::ConfigTooLong { len: 65_538 };
     let truncated = CodedFault::Truncated { at: 103 };
-    let rows: [(&[(usize, u8)], InputFault, u64); 20] = [
+    let no_start = SetupFault::Avc(ConfigFault::Nal(NalFault::NoStart));
+    let rows: [(&[(usize, u8)], InputFault, u64); 13] = [
         (&[(0, b'T')], InputFault::Coded(CodedFault::Magic), 0),
         (&[(3, b'T')], InputFault::Coded(CodedFault::Magic), 0),
         (&[(4, 1)], InputFault::Coded(CodedFault::Version(257)), 4),
@@ -34,20 +37,26 @@ fn each_refusal_of_a_header_names_its_field_and_makes_no_file(rt: HostRuntime) -
         (&[(19, 1)], InputFault::Coded(long), 18),
         // A configuration of 258 bytes.
         (&[(20, 1)], InputFault::Coded(truncated), 103),
-        // Video, more than a million ticks a second, one channel, and other configurations.
-        (&[(7, 1)], InputFault::NotYet, 6),
-        (&[(8, 1)], InputFault::NotYet, 8),
-        (&[(9, 16)], InputFault::NotYet, 8),
-        (&[(16, 1)], InputFault::NotYet, 22),
-        (&[(17, 1)], InputFault::NotYet, 22),
-        (&[(21, 1)], InputFault::NotYet, 22),
-        (&[(21, 3)], InputFault::NotYet, 22),
-        (&[(22, 0x12)], InputFault::NotYet, 22),
-        (&[(23, 0x10)], InputFault::NotYet, 22),
-        // The form is looked at behind the whole header, by place.
+        // Video whose configuration has no start code; sound whose configuration is too short, names no
+        // rate (index 13), or no channels.
+        (&[(7, 1)], InputFault::Setup(no_start), 22),
+        (
+            &[(21, 1)],
+            InputFault::Setup(SetupFault::Aac(AscFault::Truncated)),
+            22,
+        ),
+        (
+            &[(22, 0x16)],
+            InputFault::Setup(SetupFault::Aac(AscFault::Index(13))),
+            22,
+        ),
+        (
+            &[(23, 0x80)],
+            InputFault::Setup(SetupFault::Aac(AscFault::Channels(0))),
+            22,
+        ),
+        // The setup is looked at after the whole header.
         (&[(7, 1), (20, 1)], InputFault::Coded(truncated), 103),
-        (&[(7, 1), (8, 1), (17, 1)], InputFault::NotYet, 6),
-        (&[(8, 1), (17, 1)], InputFault::NotYet, 8),
     ];
     for (changes, why, place) in rows {
         let ended = run_words(alloc, &["record", "a"], &changed(changes))?;
@@ -74,6 +83,7 @@ fn what_does_not_matter_for_sound_is_not_looked_at(rt: HostRuntime) -> Result<()
 #[test]
 fn each_refusal_of_a_record_keeps_the_samples_before_it(rt: HostRuntime) -> Result<(), Fail> {
     let alloc = rt.alloc();
+    let late = InputFault::Sample(SampleFault::TimeTooLarge);
     let empty = CodedFault::Empty { at: 24 };
     let long = CodedFault::TooLong {
         at: 24,
@@ -111,9 +121,9 @@ fn each_refusal_of_a_record_keeps_the_samples_before_it(rt: HostRuntime) -> Resu
         ),
         (&[(45, 0)], 103, InputFault::Coded(empty), 24, 604),
         (&[(42, 1)], 103, InputFault::Coded(long), 24, 604),
-        // Later than 2^30 microseconds: decoded, or shown.
-        (&[(54, 0x50)], 103, InputFault::NotYet, 50, 632),
-        (&[(62, 0x50)], 103, InputFault::NotYet, 50, 632),
+        // Later than 2^48 microseconds: decoded, or shown.
+        (&[(53, 1)], 103, late, 50, 632),
+        (&[(61, 1)], 103, late, 50, 632),
         // Decoded earlier than the one before, at 0 after 21333 microseconds.
         (
             &[(84, 0), (85, 0), (92, 0), (93, 0)],
@@ -122,16 +132,10 @@ fn each_refusal_of_a_record_keeps_the_samples_before_it(rt: HostRuntime) -> Resu
             76,
             636,
         ),
-        // The record's own refusals come before its form.
+        // The record's own refusals come before its sample's.
+        (&[(27, 1), (45, 0)], 103, InputFault::Coded(empty), 24, 604),
         (
-            &[(28, 0x50), (45, 0)],
-            103,
-            InputFault::Coded(empty),
-            24,
-            604,
-        ),
-        (
-            &[(28, 0x50)],
+            &[(27, 1)],
             49,
             InputFault::Coded(CodedFault::Truncated { at: 49 }),
             49,
@@ -160,11 +164,12 @@ fn each_refusal_of_a_record_keeps_the_samples_before_it(rt: HostRuntime) -> Resu
 fn times_are_taken_up_to_their_bound(rt: HostRuntime) -> Result<(), Fail> {
     // The samples, and the fault and its place, if any.
     let falls = InputFault::Sample(SampleFault::Falls { last_us: 5 });
+    let late = InputFault::Sample(SampleFault::TimeTooLarge);
     let rows: [(&[(u64, u32)], Option<(InputFault, u64)>); 4] = [
         (&[(0, 1), (0, 1)], None),
         (&[(5, 1), (4, 1)], Some((falls, 47))),
-        (&[(1_073_741_824, 1)], None),
-        (&[(1_073_741_825, 1)], Some((InputFault::NotYet, 24))),
+        (&[(281_474_976_710_656, 1)], None),
+        (&[(281_474_976_710_657, 1)], Some((late, 24))),
     ];
     for (samples, fault) in rows {
         let input = input_of(rt.alloc(), samples)?;

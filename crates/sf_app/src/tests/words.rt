@@ -37,7 +37,7 @@ fn words_that_are_no_command_are_refused(rt: HostRuntime) -> Result<(), Fail> {
 #[test]
 fn each_answer_has_its_code(rt: HostRuntime) {
     let fault = TrackFault {
-        why: InputFault::NotYet,
+        why: InputFault::Coded(CodedFault::Magic),
         place: 0,
     };
     let limit = LimitShown::Count {

@@ -3,7 +3,8 @@ use Rattle.sf_meaning.specs.Movie.{movie, movie_in}
 use Rattle.sf_meaning.specs.declared.faults.MovieFault.TheVariants as movies
 use Rattle.sf_meaning.specs.declared.movie.PlainMovie.{PlainMovie}
 use Rattle.sf_app.specs.inner.Load.{Reads}
-use Rattle.sf_app.proofs.MovieBoxes.{fault_cause, fault_told, movie_found, movie_scale, movie_wrong, told_length}
+use Rattle.sf_meaning.proofs.MeaningLaws.{scale_of_movie}
+use Rattle.sf_app.proofs.MovieBoxes.{fault_cause, fault_told, movie_found, movie_wrong, told_length}
 use Rattle.sf_app.proofs.movie.load.load_movie.Goals as goal
 
 pub returns-in_err-moov-clause-reads : goal.returns-in_err-moov-clause-reads
@@ -25,7 +26,7 @@ returns-in-Ok-clause-reads g c =
     (told_length (g.S.Source.seen c.args.source.now).content c.length-end.result file c.length-end.ensures.told told) c.in-Ok.ensures.movie
 
 pub returns-in-Ok-clause-scale : goal.returns-in-Ok-clause-scale
-returns-in-Ok-clause-scale g c = movie_scale c.as_slice.result.now (c.in_ok-moov.moov.at + c.in_ok-moov.moov.head) c.length-end.result c.in-Ok.movie c.in-Ok.ensures.movie
+returns-in-Ok-clause-scale g c = scale_of_movie c.as_slice.result.now (c.in_ok-moov.moov.at + c.in_ok-moov.moov.head) c.length-end.result c.in-Ok.movie c.in-Ok.ensures.movie
 
 pub returns-clause-reads : goal.returns-clause-reads
 returns-clause-reads g c =

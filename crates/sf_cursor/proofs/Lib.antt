@@ -1,0 +1,5 @@
+pub mod ChunkSums
+pub mod OneSample
+pub mod RunValues
+pub mod StartLemmas
+pub mod SyncNumbers

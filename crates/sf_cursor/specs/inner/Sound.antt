@@ -1,0 +1,37 @@
+-- What holds of the tables and the chunks that a cursor keeps.
+use Rattle.std.specs.Prelude.{◌≡◌, ℕ, ◌<◌, min, List, length, take, map, sum, get_or, Ok}
+use Rattle.sf_meaning.specs.inner.Entries.{held_as_listed, places_as}
+use Rattle.sf_meaning.specs.inner.TrackTables.{IsInOrder, tables_view}
+use Rattle.sf_meaning.specs.ReadTables.{sizes_view}
+use Rattle.sf_meaning.specs.TrackSamples.{chunks_of, samples_said}
+use Rattle.sf_meaning.specs.declared.entries.ChunkAt.{ChunkAt}
+use Rattle.sf_meaning.specs.declared.entries.TimeRun.{TimeRun}
+use Rattle.sf_meaning.specs.declared.track_tables.Tables.{Tables as HeldTables}
+
+-- how many samples the chunks have
+abbrev pub counts_as : List ChunkAt → List ℕ
+counts_as chunks = map (λ c. c.per) (held_as_listed chunks)
+
+-- The chunks are those of the tables, each at its place, and the tables say each sample, of a track of some timescale and some entries.
+pub record Sound (t : HeldTables) (chunks : List ChunkAt) : Type 0 where
+  pub order : IsInOrder t
+  pub held : held_as_listed chunks ≡ chunks_of (tables_view t)
+  pub places : places_as chunks ≡ take (length chunks) t.places
+  pub scale : ℕ
+  pub entries : ℕ
+  pub said : samples_said scale entries (length (sizes_view t.sizes)) (tables_view t) ≡ Ok tt
+
+-- how many samples the runs have
+abbrev pub counts_of_runs : List TimeRun → List ℕ
+counts_of_runs runs = map (λ r. r.count) runs
+
+-- how many samples come before each of those that have so many, or 2 ^ 32 - 1 where there are more
+pub record AreStarts (counts starts : List ℕ) : Type 0 where
+  pub long : length starts ≡ length counts
+  pub at : (k : ℕ) → k < length starts → get_or starts k 0 ≡ min (sum (take k counts)) 4294967295
+
+-- The tables and chunks of a cursor, with how many samples come before each run of composition offsets and before each chunk.
+pub record Indexed (t : HeldTables) (chunks : List ChunkAt) (offset_starts chunk_starts : List ℕ) : Type 0 where
+  pub sound : Sound t chunks
+  pub offsets : AreStarts (counts_of_runs t.offsets) offset_starts
+  pub starts : AreStarts (counts_as chunks) chunk_starts

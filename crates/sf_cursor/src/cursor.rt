@@ -1,0 +1,120 @@
+//! The cursor over the samples of a track.
+
+ghost use Rattle.std.specs.Prelude.{◌≡◌, ◌+◌, ◌^◌, ◌<◌, nat_le, true, length, slice_get, Some, IfSome};
+ghost use Rattle.sf_meaning.specs.Answers.{Gives};
+ghost use Rattle.sf_meaning.specs.TrackSamples.{listed};
+ghost use Rattle.sf_cursor.specs.Cursor.{tables_in, HasPlace};
+
+use crate::boxes::table_boxes;
+use crate::look_up::{chunk_of, compose_at, ends_within, is_sync, offset_at, place_at};
+use crate::starts::{chunk_starts, run_starts};
+use sf_list::Items;
+use sf_meaning::{
+    ChunkAt, PlainSample, TableFault, Tables, chunks_of, count_of, samples_one_by_one, say_samples,
+    size_at, sum_of_first, tables_told,
+};
+use std::alloc::Global;
+use std::marker::Model;
+
+/// The samples that a sample table box says. It keeps the tables, and never a list of the samples.
+#[derive(Drop)]
+pub struct Cursor {
+    tables: Tables,
+    chunks: Items<ChunkAt>,
+    /// How many samples come before each run of composition offsets.
+    offset_starts: Items<u32>,
+    /// How many samples come before each chunk.
+    chunk_starts: Items<u32>,
+}
+
+impl Model for Cursor {
+    ghost use Rattle.sf_meaning.specs.TrackSamples.{Tables};
+    ghost use Rattle.sf_meaning.specs.inner.TrackTables.{tables_view};
+    ghost use Rattle.sf_cursor.specs.inner.Sound.{Indexed};
+
+    ghost Value = { Tables };
+
+    ghost view = { λ c. tables_view c.tables };
+
+    ghost invariant = { λ c. Indexed c.tables c.chunks c.offset_starts c.chunk_starts };
+}
+
+impl Cursor {
+    /// Reads the body of a sample table box, which begins at a place, of a track with a timescale and so
+    /// many sample entries. It errs with the first thing that is wrong with the box, by
+    /// `specs/Cursor.antt`, or where there is no memory.
+    #[tactic(auto, unfolding(crate::specs::Cursor::tables_in))]
+    pub fn read(
+        alloc: Global,
+        stbl: &[u8],
+        base: u64,
+        scale: u32,
+        entries: u32,
+    ) -> Result<Cursor, TableFault>
+        requires { base + length stbl.now < 2 ^ 64 }
+        ensures { Gives TableFault.NoMemory (λ cursor. cursor) result (tables_in base scale entries stbl.now) }
+    {
+        let boxes = table_boxes(alloc, stbl, base)?;
+        let tables = tables_told(alloc, base, boxes.as_slice())?;
+        let chunks = chunks_of(alloc, &tables)?;
+        let count = count_of(&tables.sizes);
+        say_samples(scale, u64::from(entries), count, &tables, &chunks)?;
+        let offset_starts = run_starts(alloc, tables.offsets.as_slice())?;
+        let chunk_starts = chunk_starts(alloc, &chunks)?;
+        Ok(Cursor {
+            tables,
+            chunks: Items::from_vec(chunks),
+            offset_starts,
+            chunk_starts,
+        })
+    }
+
+    /// The number of samples.
+    pub fn count(&self) -> u64
+        ensures { result ≡ length self.now.sizes }
+    {
+        u64::from(count_of(&self.tables.sizes))
+    }
+
+    /// Whether a sample, by its number from 0, lies in a file of so many bytes.
+    pub fn lies_within(&self, i: u64, bytes: u64) -> bool
+        requires { i < length self.now.sizes }
+        ensures within { IfSome (slice_get (listed self.now) i) (λ s. result ≡ nat_le (s.place + s.size) bytes) }
+        ensures place { result ≡ true → HasPlace self.now i }
+    {
+        samples_one_by_one();
+        let tables = &self.tables;
+        let chunks = self.chunks.as_slice();
+        let i = i as u32;
+        let (c, earlier) = chunk_of(chunks, self.chunk_starts.as_slice(), i);
+        ends_within(chunks[c].place, &tables.sizes, i, earlier, bytes)
+    }
+
+    /// A sample by its number, from 0. It takes no memory.
+    pub fn sample(&self, i: u64) -> PlainSample
+        requires there { i < length self.now.sizes }
+        requires place { HasPlace self.now i }
+        ensures { slice_get (listed self.now) i ≡ Some result }
+    {
+        samples_one_by_one();
+        let tables = &self.tables;
+        let chunks = self.chunks.as_slice();
+        let i = i as u32;
+        let (c, earlier) = chunk_of(chunks, self.chunk_starts.as_slice(), i);
+        let decode = sum_of_first(tables.deltas.as_slice(), i);
+        let offset = offset_at(
+            tables.version,
+            tables.offsets.as_slice(),
+            self.offset_starts.as_slice(),
+            i,
+        );
+        PlainSample {
+            decode,
+            compose: compose_at(decode, offset),
+            sync: is_sync(&tables.sync, i + 1),
+            place: place_at(chunks[c].place, &tables.sizes, i - earlier, earlier),
+            size: size_at(&tables.sizes, i),
+            description: chunks[c].description,
+        }
+    }
+}

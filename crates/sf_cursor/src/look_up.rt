@@ -1,0 +1,127 @@
+//! What the tables of a track say of one sample.
+
+ghost use Rattle.std.specs.Prelude.{◌≡◌, pos, neg_ℤ, ◌+ℤ◌, ◌≤ℤ◌, ◌<ℤ◌, ◌+◌, ◌-◌, ◌*◌, ◌^◌, ◌<◌, ◌≤◌, nat_le, length, take, drop, map, sum, get_or, slice_get};
+ghost use Rattle.sf_meaning.specs.ReadTables.{time_runs, sizes_view};
+ghost use Rattle.sf_meaning.specs.inner.Entries.{Rises};
+ghost use Rattle.sf_meaning.specs.SampleAt.{IsChunkOf};
+ghost use Rattle.sf_meaning.specs.Tables.{expand, offset_in, is_sync};
+ghost use Rattle.sf_cursor.specs.inner.Sound.{AreStarts, counts_as, counts_of_runs};
+
+use crate::starts::last_begun;
+use sf_list::Items;
+use sf_meaning::{ChunkAt, Sizes, TimeRun, offset_in, size_at};
+
+/// The value that runs give a sample, if they reach it. Samples count from 0.
+pub(crate) fn value_at(runs: &[TimeRun], starts: &[u32], i: u32) -> Option<u32>
+    requires starts { AreStarts (counts_of_runs runs.now) starts.now }
+    requires few { i < 4294967295 }
+    ensures { result ≡ slice_get (expand (time_runs runs.now)) i }
+{
+    if starts.is_empty() {
+        return None;
+    }
+    let k = last_begun(starts, i);
+    let run = runs[k];
+    if i - starts[k] < run.count {
+        Some(run.delta)
+    } else {
+        None
+    }
+}
+
+/// The composition offset of a sample, by the runs of a box of a version: 0 where they don't reach it.
+pub(crate) fn offset_at(version: u8, runs: &[TimeRun], starts: &[u32], i: u32) -> i64
+    requires starts { AreStarts (counts_of_runs runs.now) starts.now }
+    requires few { i < 4294967295 }
+    ensures exact { result ≡ get_or (map (offset_in version) (expand (time_runs runs.now))) i (pos 0) }
+    ensures least { neg_ℤ (pos (2 ^ 31)) ≤ℤ result }
+    ensures most { result <ℤ pos (2 ^ 32) }
+{
+    match value_at(runs, starts, i) {
+        Some(word) => offset_in(version, word),
+        None => 0,
+    }
+}
+
+/// When a sample is shown that is decoded at a tick, by its composition offset.
+pub(crate) fn compose_at(decode: u64, offset: i64) -> i64
+    requires decode { decode < 2 ^ 62 }
+    requires least { neg_ℤ (pos (2 ^ 31)) ≤ℤ offset }
+    requires most { offset <ℤ pos (2 ^ 32) }
+    ensures { result ≡ pos decode +ℤ offset }
+{
+    decode as i64 + offset
+}
+
+/// Whether the sample of a number, from 1, is sync.
+pub(crate) fn is_sync(sync: &Option<Items<u32>>, number: u32) -> bool
+    requires { Rises 0 sync.now }
+    ensures { result ≡ is_sync sync.now number }
+{
+    match sync {
+        None => true,
+        Some(numbers) => numbers.as_slice().binary_search(&number).is_ok(),
+    }
+}
+
+/// The chunk of a sample, and how many samples of the chunk come before it.
+pub(crate) fn chunk_of(chunks: &[ChunkAt], starts: &[u32], i: u32) -> (usize, u32)
+    requires starts { AreStarts (counts_as chunks.now) starts.now }
+    requires few { i < 4294967295 }
+    requires reach { i < sum (counts_as chunks.now) }
+    ensures chunk { IsChunkOf (counts_as chunks.now) i result.0 }
+    ensures there { result.0 < length chunks.now }
+    ensures before { sum (take result.0 (counts_as chunks.now)) + result.1 ≡ i }
+{
+    let c = last_begun(starts, i);
+    (c, i - starts[c])
+}
+
+// The sum of sizes.
+fn sum_of(sizes: &[u32]) -> u64
+    requires { length sizes.now ≤ 2 ^ 32 }
+    ensures exact { result ≡ sum sizes.now }
+    ensures bound { result ≤ length sizes.now * 2 ^ 32 }
+{
+    let mut total = 0u64;
+    for size in sizes {
+        total += u64::from(*size);
+    }
+    total
+}
+
+// How many bytes so many samples have, from one on.
+fn bytes_of(sizes: &Sizes, from: u32, count: u32) -> u64
+    requires within { from + count ≤ length (sizes_view sizes.now) }
+    requires few { length (sizes_view sizes.now) ≤ 16777216 }
+    ensures { result ≡ sum (take count (drop from (sizes_view sizes.now))) }
+{
+    match sizes {
+        Sizes::Same { size, .. } => u64::from(count) * u64::from(*size),
+        Sizes::Each(sizes) => {
+            sum_of(&sizes.as_slice()[from as usize..from as usize + count as usize])
+        }
+    }
+}
+
+/// Where a sample begins in a chunk that begins at a place, after so many samples of the chunk, from one on.
+pub(crate) fn place_at(chunk: u64, sizes: &Sizes, from: u32, count: u32) -> u64
+    requires within { from + count ≤ length (sizes_view sizes.now) }
+    requires few { length (sizes_view sizes.now) ≤ 16777216 }
+    requires fits { chunk + sum (take count (drop from (sizes_view sizes.now))) < 2 ^ 64 }
+    ensures { result ≡ chunk + sum (take count (drop from (sizes_view sizes.now))) }
+{
+    chunk + bytes_of(sizes, from, count)
+}
+
+/// Whether a sample ends within so many bytes, in a chunk that begins at a place, after so many samples of
+/// the chunk.
+pub(crate) fn ends_within(chunk: u64, sizes: &Sizes, i: u32, earlier: u32, bytes: u64) -> bool
+    requires there { i < length (sizes_view sizes.now) }
+    requires earlier { earlier ≤ i }
+    requires few { length (sizes_view sizes.now) ≤ 16777216 }
+    ensures { result ≡ nat_le (chunk + sum (take earlier (drop (i - earlier) (sizes_view sizes.now))) + get_or (sizes_view sizes.now) i 0) bytes }
+{
+    let place = u128::from(chunk) + u128::from(bytes_of(sizes, i - earlier, earlier));
+    place + u128::from(size_at(sizes, i)) <= u128::from(bytes)
+}
