@@ -1,4 +1,4 @@
-"""Writes coded sample files of AAC sound at 48000 Hz with two channels, and reads AAC in ADTS frames."""
+"""Writes coded sample files, and reads AAC in ADTS frames."""
 
 import struct
 
@@ -9,15 +9,26 @@ RATE = 48_000
 PACKET = 1024
 
 
-def write_aac(path, samples):
-    """Writes samples, each a time in microseconds and a payload. Each is sync, and shown when it is decoded."""
+AVC = 1
+AAC = 2
+
+
+def write_coded(path, kind, scale, size, channels, configuration, samples):
+    """Writes samples of a kind: each whether it is sync, when it is decoded and shown, in microseconds, and its payload.
+    A timescale of 0 is the kind's own; video has a size in pixels, and sound has channels."""
     with open(path, "wb") as file:
-        file.write(struct.pack(">4sHHIHHHI", b"SFCS", 1, 2, 0, 0, 0, 2, len(CONFIGURATION)))
-        file.write(CONFIGURATION)
-        for time, payload in samples:
-            file.write(struct.pack(">BBQQI", 1, 1, time, time, len(payload)))
+        file.write(struct.pack(">4sHHIHHHI", b"SFCS", 1, kind, scale, *size, channels, len(configuration)))
+        file.write(configuration)
+        for sync, decoded, shown, payload in samples:
+            file.write(struct.pack(">BBQQI", 1, sync, decoded, shown, len(payload)))
             file.write(payload)
         file.write(b"\0")
+
+
+def write_aac(path, samples):
+    """Writes sound at 48000 Hz with two channels: samples, each a time in microseconds and a payload. Each is sync, and shown
+    when it is decoded."""
+    write_coded(path, AAC, 0, (0, 0), 2, CONFIGURATION, ((True, time, time, payload) for time, payload in samples))
 
 
 def microseconds(packet):
