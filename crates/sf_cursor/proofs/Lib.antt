@@ -3,3 +3,4 @@ pub mod OneSample
 pub mod RunValues
 pub mod StartLemmas
 pub mod SyncNumbers
+pub mod TickSums

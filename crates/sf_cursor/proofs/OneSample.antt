@@ -14,7 +14,8 @@ use Rattle.sf_meaning.specs.declared.entries.ChunkAt.{ChunkAt}
 use Rattle.sf_meaning.specs.declared.movie.PlainSample.{PlainSample}
 use Rattle.sf_meaning.specs.declared.track_tables.Tables.{Tables as HeldTables}
 use Rattle.sf_cursor.specs.Cursor.{HasPlace}
-use Rattle.sf_cursor.specs.inner.Sound.{Sound, counts_as}
+use Rattle.sf_cursor.specs.inner.Sound.{Sound, counts_as, counts_of_runs}
+use Rattle.sf_cursor.proofs.TickSums.{length_expand}
 
 -- ---- what the tables say
 
@@ -31,6 +32,13 @@ enough scale entries n t e =
     let c = checked _ _ _ tt b.1 in
     let d = checked (nat_le n (sum (counts_of t))) _ _ tt c.1 in
     leb-true n (sum (counts_of t)) d.0
+
+-- the deltas reach as many samples
+pub timed : (scale entries n : ℕ) (t : Tables) → samples_said scale entries n t ≡ Ok tt → n ≤ length t.deltas
+unfolding samples_said
+timed scale entries n t e =
+    let b = checked (nat_le n (length t.deltas)) _ _ tt e in
+    leb-true n (length t.deltas) b.0
 
 all_listed : (scale entries : ℕ) (t : Tables) → samples_said scale entries (length t.sizes) t ≡ Ok tt → samples_in scale entries t ≡ Ok (listed t)
 unfolding samples_in
@@ -147,6 +155,11 @@ pub chunks_reach : (t : HeldTables) (chunks : List ChunkAt) → Sound t chunks �
 chunks_reach t chunks sound i lt =
     let counts : sum (counts_as chunks) ≡ sum (counts_of (tables_view t)) = ap (λ (hs : List InChunk). sum (map (λ h. h.per) hs)) sound.held in
     omega (arith, counts, lt, enough sound.scale sound.entries (length (sizes_view t.sizes)) (tables_view t) sound.said)
+
+-- the runs of deltas reach a sample
+pub times_reach : (t : HeldTables) (chunks : List ChunkAt) → Sound t chunks → (i : ℕ) → i < length (sizes_view t.sizes) → i < sum (counts_of_runs t.deltas)
+times_reach t chunks sound i lt =
+    omega (arith, lt, length_expand t.deltas, timed sound.scale sound.entries (length (sizes_view t.sizes)) (tables_view t) sound.said)
 
 -- a sample that has a place begins below 2 ^ 64
 pub place_fits : Law → (t : HeldTables) (chunks : List ChunkAt) → Sound t chunks → (i c earlier : ℕ) (d : ChunkAt)

@@ -28,7 +28,7 @@ none_there f [] i d e = refl
 none_there f (x ∷ xs) zero d e = absurd (cc e)
 none_there f (x ∷ xs) (suc i) d e = none_there f xs i d e
 
-sum-replicate : (n d : ℕ) → sum (replicate n d) ≡ n * d
+pub sum-replicate : (n d : ℕ) → sum (replicate n d) ≡ n * d
 sum-replicate zero d = omega arith
 sum-replicate (suc n) d = sum_by-cons (λ x. x) d (replicate n d) ∙ ap (λ (k : ℕ). d + k) (sum-replicate n d) ∙ omega arith
 

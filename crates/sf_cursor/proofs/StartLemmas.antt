@@ -7,20 +7,41 @@ use Rattle.sf_cursor.specs.inner.Sound.{AreStarts}
 use Rattle.sf_cursor.proofs.ChunkSums.{sum-take}
 use Rattle.std.proofs.lemmas.List.{get_or_append_left, get_or-append_right, length_push}
 
+-- one more at the end, by its index
+pub more_at : (F : ℕ → ℕ) (xs : List ℕ) (i x : ℕ) → length xs ≡ i → ((k : ℕ) → k < length xs → get_or xs k 0 ≡ F k) → x ≡ F i
+    → (k : ℕ) → k < length (xs ++ x ∷ []) → get_or (xs ++ x ∷ []) k 0 ≡ F k
+more_at F xs i x long at is k lt =
+    elim (cases_lt k (length xs)) [
+      | inl before ↦ get_or_append_left xs (x ∷ []) 0 k before ∙ at k before
+      | inr behind ↦
+          let same : k ≡ i = omega (arith, length_push xs x, long, lt, behind) in
+          let none : k - length xs ≡ 0 = omega (arith, same, long) in
+          get_or-append_right xs (x ∷ []) (length xs) k 0 refl behind
+          ∙ ap (λ (j : ℕ). get_or (x ∷ []) j 0) none ∙ is
+          ∙ ap F (sym same)
+    ]
+
+-- one more at the end that isn't too large
+pub more_under : (most : ℕ) (xs : List ℕ) (x : ℕ) → ((k : ℕ) → k < length xs → get_or xs k 0 ≤ most) → x ≤ most
+    → (k : ℕ) → k < length (xs ++ x ∷ []) → get_or (xs ++ x ∷ []) k 0 ≤ most
+more_under most xs x at is k lt =
+    elim (cases_lt k (length xs)) [
+      | inl before ↦
+          let low : get_or xs k 0 ≤ most = at k before in
+          let same : get_or (xs ++ x ∷ []) k 0 ≡ get_or xs k 0 = get_or_append_left xs (x ∷ []) 0 k before in
+          omega (arith, low, same)
+      | inr behind ↦
+          let none : k - length xs ≡ 0 = omega (arith, length_push xs x, lt, behind) in
+          let same : get_or (xs ++ x ∷ []) k 0 ≡ x =
+          get_or-append_right xs (x ∷ []) (length xs) k 0 refl behind ∙ ap (λ (j : ℕ). get_or (x ∷ []) j 0) none in
+          omega (arith, is, same)
+    ]
+
 -- one more in front of which so many samples come
 pub more_starts : (counts starts : List ℕ) (i total : ℕ) → length starts ≡ i
     → ((k : ℕ) → k < length starts → get_or starts k 0 ≡ min (sum (take k counts)) 4294967295) → total ≡ min (sum (take i counts)) 4294967295
     → (k : ℕ) → k < length (starts ++ total ∷ []) → get_or (starts ++ total ∷ []) k 0 ≡ min (sum (take k counts)) 4294967295
-more_starts counts starts i total long at is k lt =
-    elim (cases_lt k (length starts)) [
-      | inl before ↦ get_or_append_left starts (total ∷ []) 0 k before ∙ at k before
-      | inr behind ↦
-          let same : k ≡ i = omega (arith, length_push starts total, long, lt, behind) in
-          let none : k - length starts ≡ 0 = omega (arith, same, long) in
-          get_or-append_right starts (total ∷ []) (length starts) k 0 refl behind
-          ∙ ap (λ (j : ℕ). get_or (total ∷ []) j 0) none ∙ is
-          ∙ ap (λ (j : ℕ). min (sum (take j counts)) 4294967295) (sym same)
-    ]
+more_starts counts starts i total long at is = more_at (λ (k : ℕ). min (sum (take k counts)) 4294967295) starts i total long at is
 
 -- the first one begins at 0
 pub first_start : (counts starts : List ℕ) → AreStarts counts starts → 0 < length starts → get_or starts 0 0 ≡ 0

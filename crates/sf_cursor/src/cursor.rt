@@ -8,10 +8,11 @@ ghost use Rattle.sf_cursor.specs.Cursor.{tables_in, HasPlace};
 use crate::boxes::table_boxes;
 use crate::look_up::{chunk_of, compose_at, ends_within, is_sync, offset_at, place_at};
 use crate::starts::{chunk_starts, run_starts};
+use crate::ticks::{decode_at, run_ticks};
 use sf_list::Items;
 use sf_meaning::{
     ChunkAt, PlainSample, TableFault, Tables, chunks_of, count_of, samples_one_by_one, say_samples,
-    size_at, sum_of_first, tables_told,
+    size_at, tables_told,
 };
 use std::alloc::Global;
 use std::marker::Model;
@@ -21,6 +22,10 @@ use std::marker::Model;
 pub struct Cursor {
     tables: Tables,
     chunks: Items<ChunkAt>,
+    /// How many samples come before each run of deltas.
+    time_starts: Items<u32>,
+    /// How long they last, in ticks.
+    ticks: Items<u64>,
     /// How many samples come before each run of composition offsets.
     offset_starts: Items<u32>,
     /// How many samples come before each chunk.
@@ -36,7 +41,7 @@ impl Model for Cursor {
 
     ghost view = { λ c. tables_view c.tables };
 
-    ghost invariant = { λ c. Indexed c.tables c.chunks c.offset_starts c.chunk_starts };
+    ghost invariant = { λ c. Indexed c.tables c.chunks c.time_starts c.ticks c.offset_starts c.chunk_starts };
 }
 
 impl Cursor {
@@ -59,11 +64,15 @@ impl Cursor {
         let chunks = chunks_of(alloc, &tables)?;
         let count = count_of(&tables.sizes);
         say_samples(scale, u64::from(entries), count, &tables, &chunks)?;
+        let time_starts = run_starts(alloc, tables.deltas.as_slice())?;
+        let ticks = run_ticks(alloc, tables.deltas.as_slice())?;
         let offset_starts = run_starts(alloc, tables.offsets.as_slice())?;
         let chunk_starts = chunk_starts(alloc, &chunks)?;
         Ok(Cursor {
             tables,
             chunks: Items::from_vec(chunks),
+            time_starts,
+            ticks,
             offset_starts,
             chunk_starts,
         })
@@ -101,7 +110,12 @@ impl Cursor {
         let chunks = self.chunks.as_slice();
         let i = i as u32;
         let (c, earlier) = chunk_of(chunks, self.chunk_starts.as_slice(), i);
-        let decode = sum_of_first(tables.deltas.as_slice(), i);
+        let decode = decode_at(
+            tables.deltas.as_slice(),
+            self.time_starts.as_slice(),
+            self.ticks.as_slice(),
+            i,
+        );
         let offset = offset_at(
             tables.version,
             tables.offsets.as_slice(),

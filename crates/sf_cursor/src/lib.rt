@@ -11,6 +11,7 @@ mod boxes;
 mod cursor;
 mod look_up;
 mod starts;
+mod ticks;
 
 pub use cursor::Cursor;
 pub use sf_meaning::{PlainSample, TableFault};

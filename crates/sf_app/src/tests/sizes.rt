@@ -9,11 +9,11 @@ fn samples_listed(text: &[u8]) -> usize {
     text.iter().filter(|byte| **byte == b'\n').count()
 }
 
-// 150,000 samples at one time, and 1,050 samples in a chunk each.
+// 150,000 samples at one time, and 1,200 samples in a chunk each.
 #[test]
 fn many_samples_and_chunks_are_recorded_and_listed(rt: HostRuntime) -> Result<(), Fail> {
     let alloc = rt.alloc();
-    for (count, step, size) in [(150_000usize, 0u64, 1u32), (1_050, 1_010_000, 3)] {
+    for (count, step, size) in [(150_000usize, 0u64, 1u32), (1_200, 1_010_000, 3)] {
         let mut samples = Vec::new(alloc);
         for number in 0..count {
             let us = (number as u64).saturating_mul(step);

@@ -1,8 +1,9 @@
 -- What holds of the tables and the chunks that a cursor keeps.
-use Rattle.std.specs.Prelude.{◌≡◌, ℕ, ◌<◌, min, List, length, take, map, sum, get_or, Ok}
+use Rattle.std.specs.Prelude.{◌≡◌, ℕ, ◌*◌, ◌^◌, ◌<◌, ◌≤◌, min, List, length, take, map, sum, get_or, Ok}
 use Rattle.sf_meaning.specs.inner.Entries.{held_as_listed, places_as}
 use Rattle.sf_meaning.specs.inner.TrackTables.{IsInOrder, tables_view}
-use Rattle.sf_meaning.specs.ReadTables.{sizes_view}
+use Rattle.sf_meaning.specs.ReadTables.{sizes_view, time_runs}
+use Rattle.sf_meaning.specs.Tables.{expand}
 use Rattle.sf_meaning.specs.TrackSamples.{chunks_of, samples_said}
 use Rattle.sf_meaning.specs.declared.entries.ChunkAt.{ChunkAt}
 use Rattle.sf_meaning.specs.declared.entries.TimeRun.{TimeRun}
@@ -30,8 +31,17 @@ pub record AreStarts (counts starts : List ℕ) : Type 0 where
   pub long : length starts ≡ length counts
   pub at : (k : ℕ) → k < length starts → get_or starts k 0 ≡ min (sum (take k counts)) 4294967295
 
--- The tables and chunks of a cursor, with how many samples come before each run of composition offsets and before each chunk.
-pub record Indexed (t : HeldTables) (chunks : List ChunkAt) (offset_starts chunk_starts : List ℕ) : Type 0 where
+-- how long the samples before each run last, in ticks, of the first 2 ^ 24 samples
+pub record AreTicks (runs : List TimeRun) (ticks : List ℕ) : Type 0 where
+  pub long : length ticks ≡ length runs
+  pub at : (k : ℕ) → k < length ticks → get_or ticks k 0 ≡ sum (take (min (sum (take k (counts_of_runs runs))) 16777216) (expand (time_runs runs)))
+  pub bound : (k : ℕ) → k < length ticks → get_or ticks k 0 ≤ 16777216 * 2 ^ 32
+
+-- The tables and chunks of a cursor, with how many samples come before each run of deltas, how long they last, and how many samples
+-- come before each run of composition offsets and before each chunk.
+pub record Indexed (t : HeldTables) (chunks : List ChunkAt) (time_starts ticks offset_starts chunk_starts : List ℕ) : Type 0 where
   pub sound : Sound t chunks
+  pub times : AreStarts (counts_of_runs t.deltas) time_starts
+  pub lasting : AreTicks t.deltas ticks
   pub offsets : AreStarts (counts_of_runs t.offsets) offset_starts
   pub starts : AreStarts (counts_as chunks) chunk_starts

@@ -12,13 +12,18 @@ use Rattle.std.proofs.Common.{Some}
 use Rattle.sf_cursor.specs.Cursor.{HasPlace}
 use Rattle.sf_cursor.specs.inner.Sound.{counts_as}
 use Rattle.sf_meaning.specs.SampleAt.{IsChunkOf}
-use Rattle.sf_cursor.proofs.OneSample.{Law, kept, chunks_reach, place_fits, put_together, first_left}
+use Rattle.sf_cursor.proofs.OneSample.{Law, kept, chunks_reach, times_reach, place_fits, put_together, first_left}
 use Rattle.sf_cursor.proofs.cursor.Cursor.sample.Goals as goal
 
 pub chunk_of-c-requires-clause-reach : goal.chunk_of-c-requires-clause-reach
 chunk_of-c-requires-clause-reach c =
     let lt : c.args.i < length (sizes_view c.self.inside.tables.sizes) = subst (λ (x : Tables). c.args.i < length x.sizes) (sym c.self.view_is) c.requires.there in
     rw c.as_slice-chunks.ensures (chunks_reach c.self.inside.tables c.self.inside.chunks c.self.invariant.sound c.args.i lt)
+
+pub decode_at-decode-requires-clause-reach : goal.decode_at-decode-requires-clause-reach
+decode_at-decode-requires-clause-reach c =
+    let lt : c.args.i < length (sizes_view c.self.inside.tables.sizes) = subst (λ (x : Tables). c.args.i < length x.sizes) (sym c.self.view_is) c.requires.there in
+    rw c.as_slice-2.ensures (times_reach c.self.inside.tables c.self.inside.chunks c.self.invariant.sound c.args.i lt)
 
 pub place_at-requires-clause-fits : goal.place_at-requires-clause-fits
 place_at-requires-clause-fits c =
@@ -47,12 +52,12 @@ returns c =
     let k = kept c.self.inside.tables chunks c.self.invariant.sound c.args.i c.chunk_of-c.result.0 c.chunk_of-c.result.1 none is there sums in
     let fits : SFits w64 c.offset_at-offset.result = search rules in
     let shown : SFits w64 c.compose_at.result = search rules in
-    let offset : c.offset_at-offset.result ≡ get_or (tables_view c.self.inside.tables).offsets c.args.i (pos 0) = rw c.as_slice-3.ensures at c.offset_at-offset.ensures.exact in
-    let compose : to_z w64 (of_z w64 c.compose_at.result) ≡ pos c.sum_of_first-decode.result +ℤ get_or (tables_view c.self.inside.tables).offsets c.args.i (pos 0) =
+    let offset : c.offset_at-offset.result ≡ get_or (tables_view c.self.inside.tables).offsets c.args.i (pos 0) = rw c.as_slice-5.ensures at c.offset_at-offset.ensures.exact in
+    let compose : to_z w64 (of_z w64 c.compose_at.result) ≡ pos c.decode_at-decode.result +ℤ get_or (tables_view c.self.inside.tables).offsets c.args.i (pos 0) =
     to_z-of_z w64 c.compose_at.result shown ∙ c.compose_at.ensures
-    ∙ ap (λ (z : ℤ). pos c.sum_of_first-decode.result +ℤ z) (to_z-of_z w64 c.offset_at-offset.result fits ∙ offset) in
+    ∙ ap (λ (z : ℤ). pos c.decode_at-decode.result +ℤ z) (to_z-of_z w64 c.offset_at-offset.result fits ∙ offset) in
     let a : PlainSample = record {
-      decode = c.sum_of_first-decode.result;
+      decode = c.decode_at-decode.result;
       compose = to_z w64 (of_z w64 c.compose_at.result);
       sync = c.is_sync.result;
       place = c.place_at.result;
@@ -60,7 +65,7 @@ returns c =
       description = (get_or c.as_slice-chunks.result.now c.chunk_of-c.result.0 none).description;
     } in
     let whole = put_together law c.self.inside.tables chunks c.self.invariant.sound c.args.i c.chunk_of-c.result.0 c.chunk_of-c.result.1 none k lt a
-    (rw c.as_slice-2.ensures at c.sum_of_first-decode.ensures.exact)
+    (rw c.as_slice-2.ensures at c.decode_at-decode.ensures.exact)
     compose
     c.is_sync.ensures
     (rw at at c.place_at.ensures)
