@@ -58,13 +58,13 @@ head_takes top at bytes h e =
           ]
     ]
 
--- the rest behind a head is shorter by eight bytes or more
+-- the rest after a head is shorter by eight bytes or more
 pub rest_shorter : (top : Bool) (at n : ℕ) (bytes : List ℕ) (h : BoxHead) → head_of top at bytes ≡ Ok h → length bytes ≤ suc n → length (drop h.size bytes) ≤ n
 rest_shorter top at n bytes h e le =
     let t = head_takes top at bytes h e in
     omega (arith, t.whole, t.head, t.least, length-drop h.size bytes)
 
--- two walks agree behind a head where they agree on shorter rests
+-- two walks agree after a head where they agree on shorter rests
 same_after : (n m : ℕ) (top : Bool) (at : ℕ) (bytes : List ℕ) (r : Result BoxHead BoxFault)
     → ((h : BoxHead) → r ≡ Ok h → tiles n top (at + h.size) (drop h.size bytes) ≡ tiles m top (at + h.size) (drop h.size bytes))
     → first_then r (λ h. with_first (piece_of h bytes) (tiles n top (at + h.size) (drop h.size bytes)))

@@ -4,7 +4,7 @@ use Rattle.std.proofs.lemmas.List.{length-append, length-drop, take-append-drop,
 use Rattle.sf_box.specs.Boxes.{be32, box_of, opened}
 use Rattle.sf_box.proofs.Numbers.{length-be32}
 
--- a part of a list is its first items and those behind them
+-- a part of a list is its first items and those after them
 pub drop_in_two : (xs : List ℕ) (at n : ℕ) → drop at xs ≡ take n (drop at xs) ++ drop (at + n) xs
 drop_in_two xs at n = rw (← drop-drop n at xs) (sym (take-append-drop n (drop at xs)))
 

@@ -130,7 +130,7 @@ walk_begins base all =
       within = All-nil (Within base all);
     }
 
--- a rest behind a box
+-- a rest after a box
 rest_behind : (base at size : ℕ) (all rest : List ℕ) → base ≤ at → rest ≡ drop (at - base) all → drop size rest ≡ drop ((at + size) - base) all
 rest_behind base at size all rest order e =
     let n : (at + size) - base ≡ (at - base) + size = omega arith in
@@ -167,7 +167,7 @@ walk_goes base all heads at rest h e w =
           (All-cons (Within base all) h [] (record { begins = omega (arith, place, w.order); ends = omega (arith, place, t.whole, w.place); head = t.head; least = t.least }) (All-nil (Within base all)));
     }
 
--- the walk goes on behind a head that was put to the others
+-- the walk goes on after a head that was put to the others
 pub walk_next : (base : ℕ) (all : List ℕ) (heads : List BoxHead) (at : ℕ) (rest : List ℕ) (h : BoxHead) (new : List BoxHead) (behind : List ℕ)
     → new ≡ heads ++ h ∷ [] → behind ≡ drop h.size rest → Ok h ≡ head_of false at rest → Walk base all heads at rest
     → Walk base all new (at + h.size) behind

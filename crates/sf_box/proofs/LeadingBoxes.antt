@@ -6,7 +6,7 @@ use Rattle.sf_box.specs.declared.types.BoxFault.{BoxFault}
 use Rattle.sf_box.specs.Boxes.{Piece, head_of, with_first, first_then, piece_of, tiles, boxes, first_or_end, leads, leading}
 use Rattle.sf_box.proofs.Boxes.{head_takes, rest_shorter}
 
--- two walks agree behind a head where they agree on shorter rests
+-- two walks agree after a head where they agree on shorter rests
 same_after : (n m at : ℕ) (bytes : List ℕ) (r : Result BoxHead BoxFault)
     → ((h : BoxHead) → r ≡ Ok h → leads n (at + h.size) (drop h.size bytes) ≡ leads m (at + h.size) (drop h.size bytes))
     → first_or_end r (λ h. piece_of h bytes ∷ leads n (at + h.size) (drop h.size bytes))

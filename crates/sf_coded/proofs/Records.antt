@@ -60,7 +60,7 @@ record_takes at room first r e =
           ]
     ]
 
--- two readings agree behind a record where they agree on shorter rests
+-- two readings agree after a record where they agree on shorter rests
 same_behind : (at : ℕ) (bytes : List ℕ) (t : Result Turn CodedFault) (f g : Record → Records) → ((r : Record) → t ≡ Ok (Next r) → f r ≡ g r)
     → turned at bytes t f ≡ turned at bytes t g
 same_behind at bytes (Ok End) f g same = refl
@@ -104,7 +104,7 @@ refuses (Some bytes) ReadFault e = tt
 refuses (Some bytes) NoMemory e = tt
 refuses (Some bytes) _ e = rw e refl
 
--- a sample behind those so far
+-- a sample after those so far
 samples_more : (setup : Setup) (samples : List CodedSample) (s : CodedSample) (rs : Records) → file_of setup samples (with_sample s rs) ≡ file_of setup (samples ++ s ∷ []) rs
 samples_more setup samples s rs = ap (λ (xs : List CodedSample). record { setup = Some setup; samples = xs; end = rs.end }) (sym (append_assoc samples (s ∷ []) rs.samples))
 
@@ -162,7 +162,7 @@ sample_told (Some all) later at r bytes told from len same =
     let payload : bytes ≡ take r.len (drop 22 (drop at all)) = f ∙ ap (λ (n : ℕ). take n (drop (at + 22) all)) len ∙ ap (take r.len) (sym (drop-drop 22 at all)) in
     (r, told, ap (λ (b : List ℕ). record { at = at; sample = record { dts_us = r.dts_us; pts_us = r.pts_us; sync = r.sync; bytes = b } }) payload)
 
--- the same for the source and the setup as they are behind the answer
+-- the same for the source and the setup as they are after the answer
 pub follows_on : (contents later : Option (List ℕ)) (setup same : Setup) (samples : List CodedSample) (place size next : ℕ) (result : Result (Option CodedSample) CodedFault)
     → NextTold contents place result → Moves place size next result → later ≡ contents → same ≡ setup → Stands contents setup samples place
     → Follows later same samples next result

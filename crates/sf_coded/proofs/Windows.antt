@@ -44,7 +44,7 @@ front_held source told block from held at count old new same e covers len len' i
     subst (λ (s : Option (List ℕ)). AreFrom s at new) same
     (held_part source block from held at (length old) new e (λ le. subst (λ (n : ℕ). Covers from held at n) (sym len) (covers (subst (λ (n : ℕ). 1 ≤ n) len le))) len' is)
 
--- a part, and the one behind it
+-- a part, and the one after it
 pub joined_from : (contents : Option (List ℕ)) (at : ℕ) (a b : List ℕ) → AreFrom contents at a → AreFrom contents (at + length a) b → AreFrom contents at (a ++ b)
 joined_from None at a b front rest = tt
 joined_from (Some all) at a b front rest =

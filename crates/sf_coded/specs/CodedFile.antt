@@ -99,7 +99,7 @@ ended end = record { samples = []; end = end }
 abbrev pub with_sample : CodedSample → Records → Records
 with_sample s rs = record { samples = s ∷ rs.samples; end = rs.end }
 
--- the records that begin with this turn, where what stands behind a record is known
+-- the records that begin with this turn, where what stands after a record is known
 abbrev pub turned : ℕ → List ℕ → Result Turn CodedFault → (Record → Records) → Records
 turned at bytes (Ok End) behind = ended None
 turned at bytes (Ok (Next r)) behind = with_sample (sample_of at bytes r) (behind r)

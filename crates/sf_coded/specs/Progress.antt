@@ -59,7 +59,7 @@ Follows contents setup samples place (Err ReadFault) = Stands contents setup sam
 Follows contents setup samples place (Err NoMemory) = Stands contents setup samples place
 Follows contents setup samples place (Err f) = EndsSo contents setup samples (Some f)
 
--- A sample that was read at a place of any source: it lies within the source, and the next record stands behind it.
+-- A sample that was read at a place of any source: it lies within the source, and the next record stands after it.
 pub record SampleAt (place size next : ℕ) (s : CodedSample) : Type 0 where
   pub at : s.at ≡ place
   pub some : 1 ≤ length s.sample.bytes

@@ -26,7 +26,7 @@ pub struct Header {
     pub config_len: u32,
 }
 
-/// The fields of a record behind its tag.
+/// The fields of a record after its tag.
 #[derive(Clone, Copy)]
 pub struct Record {
     pub sync: bool,

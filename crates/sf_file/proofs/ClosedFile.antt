@@ -14,7 +14,8 @@ use Rattle.sf_world.specs.Contents.{grown, patched}
 use Rattle.sf_world.proofs.GrownLemmas.{grown_twice}
 use Rattle.sf_entry.specs.declared.track_setup.TrackSetup.{TrackSetup}
 use Rattle.sf_meaning.specs.Stbl.{Timed}
-use Rattle.sf_meaning.specs.Layout.{ftyp_body, timed}
+use Rattle.sf_layout.specs.Headers.{ftyp_body}
+use Rattle.sf_meaning.specs.Rows.{timed}
 use Rattle.sf_layout.specs.Layout.{samples_of, stored_bytes, layout, movie_box, track_samples, tracks_of}
 use Rattle.sf_layout.proofs.LayoutLaws.{payload_grown, rows_timed, samples_grown}
 use Rattle.sf_gather.specs.declared.given.LastSample.{LastSample}

@@ -2,8 +2,7 @@
 use Rattle.std.proofs.Common.{◌≡◌, ℕ, ◌+◌, ◌^◌, ◌<◌, ◌≤◌, List, length, codes, Option, IfSome, refl, sym, ap, ◌∙◌, arith}
 use Rattle.sf_box.specs.Parts.{tiled}
 use Rattle.sf_box.proofs.BoxLaws.{length-box_of}
-use Rattle.sf_meaning.specs.Stbl.{Row, duration_in_rows, stbl_parts}
-use Rattle.sf_meaning.specs.Layout.{stbl_box}
+use Rattle.sf_meaning.specs.Stbl.{Row, duration_in_rows, stbl_parts, stbl_box}
 use Rattle.sf_layout.specs.Headers.{microseconds}
 use Rattle.sf_layout.specs.Layout.{TrackRows, lead_of, head_of, stbl_of}
 use Rattle.sf_layout.specs.declared.heads.TrackHead.{TrackHead}

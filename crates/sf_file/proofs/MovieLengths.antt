@@ -9,8 +9,8 @@ use Rattle.sf_box.proofs.BoxLaws.{length-box_of, length-tiled-cons, length-tiled
 use Rattle.sf_tick.specs.declared.types.Kind.{Kind}
 use Rattle.sf_tick.specs.declared.types.Kind.TheVariants.{Avc, Aac}
 use Rattle.sf_entry.specs.declared.track_setup.TrackSetup.{TrackSetup}
-use Rattle.sf_meaning.specs.Stbl.{stbl_parts, stsd_body, stts_body, stsz_body, stsc_body, stco_body}
-use Rattle.sf_meaning.specs.Layout.{is_long, stbl_box}
+use Rattle.sf_meaning.specs.Stbl.{stbl_parts, stsd_body, stts_body, stsz_body, stsc_body, stco_body, stbl_box}
+use Rattle.sf_meaning.specs.WrittenHeaders.{is_long}
 use Rattle.sf_layout.specs.Headers.{for_kind, longest, end_us}
 use Rattle.sf_layout.specs.Layout.{TrackRows, head_of, stbl_of, start_of, movie_box}
 use Rattle.sf_layout.specs.declared.heads.TrackHead.{TrackHead}

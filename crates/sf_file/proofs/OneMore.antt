@@ -10,7 +10,7 @@ use Rattle.sf_tick.specs.declared.types.Stored.{Stored}
 use Rattle.sf_tick.specs.declared.types.Chunk.{Chunk}
 use Rattle.sf_entry.specs.declared.track_setup.TrackSetup.{TrackSetup}
 use Rattle.sf_meaning.specs.Stbl.{timed_of}
-use Rattle.sf_meaning.specs.Layout.{timed}
+use Rattle.sf_meaning.specs.Rows.{timed}
 use Rattle.sf_layout.specs.Layout.{TrackRows, samples_of, stored_bytes, first_us, track_samples, track_rows, tracks_from}
 use Rattle.sf_layout.proofs.LayoutLaws.{samples_grown, rows_grown, samples_kept, rows_kept}
 use Rattle.sf_gather.proofs.GatherLaws.{last_from-append}

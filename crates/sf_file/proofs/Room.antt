@@ -11,7 +11,7 @@ use Rattle.sf_tick.proofs.TickLaws.{tick_rises}
 use Rattle.sf_tick.specs.declared.types.Stored.{Stored}
 use Rattle.sf_tick.specs.declared.types.Chunk.{Chunk}
 use Rattle.sf_meaning.specs.Stbl.{Timed, Row, timed_of, ticks_of, differences, deltas_of, duration_in_rows}
-use Rattle.sf_meaning.specs.Layout.{stored_bytes, timed, row_at}
+use Rattle.sf_meaning.specs.Rows.{stored_bytes, timed, row_at}
 use Rattle.sf_gather.specs.declared.given.LastSample.{LastSample}
 use Rattle.sf_gather.specs.Accepting.{kept_of, last_from}
 use Rattle.sf_gather.specs.Proper.{Follows, AllFollow}

@@ -6,7 +6,7 @@ ghost use Rattle.sf_tick.specs.declared.types.Chunk.{Chunk};
 ghost use Rattle.sf_entry.specs.declared.track_setup.TrackSetup.{TrackSetup};
 ghost use Rattle.sf_meaning.specs.Groups.{groups};
 ghost use Rattle.sf_meaning.specs.Joined.{begins_at, content, joined};
-ghost use Rattle.sf_meaning.specs.Layout.{held_as};
+ghost use Rattle.sf_meaning.specs.Rows.{held_as};
 ghost use Rattle.sf_meaning.specs.Movie.{movie};
 ghost use Rattle.sf_meaning.specs.Written.{held_since};
 ghost use Rattle.sf_layout.specs.Layout.{layout, movie_box, track_samples, tracks_of};

@@ -140,7 +140,7 @@ both_none (Some fault) other e f = e
 pub no_refusal : (given : Given) (last : Option LastSample) (sample : Sample) → time_refusal given last sample ≡ None → not_units given sample ≡ None → refusal given last sample ≡ None
 no_refusal given last sample e f = both_none (time_refusal given last sample) (not_units given sample) e f
 
--- one more sample that can stand behind the others
+-- one more sample that can stand after the others
 pub follow_more : (scale : ℕ) (last : Option LastSample) (xs : List Stored) (s : Stored) → AllFollow scale last xs → Follows scale (last_from last xs) s → AllFollow scale last (xs ++ s ∷ [])
 follow_more scale last [] s all one = (one, tt)
 follow_more scale last (x ∷ xs) s all one = (all.0, follow_more scale (Some (kept_of x)) xs s all.1 one)

@@ -1,4 +1,4 @@
--- The first chunk as a longest front, and the last one behind one more sample.
+-- The first chunk as a longest front, and the last one after one more sample.
 use Rattle.std.proofs.Common.{◌≡◌, ℕ, ◌+◌, Bool, true, false, cond, List, [], ◌∷◌, ◌++◌, refl, sym, ap, ◌∙◌, append_assoc, append-nil}
 use Rattle.std.proofs.lemmas.List.{append_cancel_left}
 use Rattle.sf_tick.specs.declared.types.Stored.{Stored}
@@ -46,7 +46,7 @@ last_is given samples last e =
     let ends : last ∷ [] ≡ marked (open_from given 0 [] samples) ∷ [] = append_cancel_left (closed given samples) _ _ (sym e ∙ split) in
     cc
 
--- the chunks behind one more sample
+-- the chunks after one more sample
 more_split : (given : Given) (samples : List Stored) (next : Stored)
     → chunks given (samples ++ next ∷ []) ≡ (closed given samples ++ closes given (open_from given 0 [] samples) next) ++ marked (next_open given (open_from given 0 [] samples) next) ∷ []
 more_split given samples next =

@@ -29,7 +29,7 @@ chunks_split given number so_far [] = refl
 chunks_split given number so_far (x ∷ xs) =
     split_if (belongs given so_far x) (chunk_of given number false so_far) _ _ _ _ _ _ (chunks_split given number (so_far ++ x ∷ []) xs) (chunks_split given (number + 1) (x ∷ []) xs)
 
--- the last chunk behind one more sample
+-- the last chunk after one more sample
 abbrev pub next_open : Given → Chunk → Stored → Chunk
 next_open given chunk s =
     cond (belongs given chunk.samples s) (chunk_of given chunk.number false (chunk.samples ++ s ∷ [])) (chunk_of given (chunk.number + 1) false (s ∷ []))

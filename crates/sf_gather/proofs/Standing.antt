@@ -1,4 +1,4 @@
--- For which lists a gatherer stands behind a sample.
+-- For which lists a gatherer stands after a sample.
 use Rattle.std.proofs.Common.{◌≡◌, ◌+◌, Bool, true, false, cond, List, [], ◌∷◌, ◌++◌, Option, Some, None, refl, sym, ap, ◌∙◌}
 use Rattle.std.specs.Option.{option_to_list}
 use Rattle.std.proofs.lemmas.List.{append_cancel_left}
@@ -32,7 +32,7 @@ after_if : (b : Bool) (g : Gathered) (s : Stored)
 after_if true g s = refl
 after_if false g s = refl
 
--- what the gatherer is behind a sample
+-- what the gatherer is after a sample
 abbrev behind : Gathered → Stored → Gathered
 behind g s = record { given = g.given; chunk = next_open g.given g.chunk s; last = Some (kept_of s) }
 

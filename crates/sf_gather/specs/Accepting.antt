@@ -41,7 +41,7 @@ stored_of given sample =
 abbrev pub kept_of : Stored → LastSample
 kept_of sample = record { dts_us = sample.dts_us; decode = sample.decode }
 
--- what is kept of the last sample of a list that stands behind an earlier one
+-- what is kept of the last sample of a list that stands after an earlier one
 abbrev pub last_from : Option LastSample → List Stored → Option LastSample
 last_from before [] = before
 last_from before (sample ∷ samples) = last_from (Some (kept_of sample)) samples
@@ -115,7 +115,7 @@ abbrev pub up_to : Option SampleFault → List Stored → List Stored
 up_to None samples = samples
 up_to (Some fault) samples = []
 
--- The samples in front of the first one that is refused, as they are stored, behind an earlier last one.
+-- The samples in front of the first one that is refused, as they are stored, after an earlier last one.
 abbrev pub plain_from : Given → Option LastSample → List Sample → List Stored
 plain_from given last [] = []
 plain_from given last (sample ∷ samples) =

@@ -14,12 +14,12 @@ pub record Gathered : Type 0 where
   pub chunk : Chunk
   pub last : Option LastSample
 
--- a gatherer behind one more sample that belongs to its chunk
+-- a gatherer after one more sample that belongs to its chunk
 abbrev pub grown : Gathered → Stored → Gathered
 grown gatherer sample =
     record { given = gatherer.given; chunk = chunk_of gatherer.given gatherer.chunk.number false (gatherer.chunk.samples ++ sample ∷ []); last = Some (kept_of sample) }
 
--- a gatherer behind one more sample that begins the next chunk
+-- a gatherer after one more sample that begins the next chunk
 abbrev pub begun : Gathered → Stored → Gathered
 begun gatherer sample =
     record { given = gatherer.given; chunk = chunk_of gatherer.given (gatherer.chunk.number + 1) false (sample ∷ []); last = Some (kept_of sample) }

@@ -2,5 +2,4 @@ pub mod Accepting
 pub mod Chunks
 pub mod Gathered
 pub mod Proper
-pub mod Sound
 pub mod inner

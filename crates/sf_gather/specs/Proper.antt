@@ -8,7 +8,7 @@ use Rattle.sf_gather.specs.declared.given.LastSample.{LastSample}
 use Rattle.sf_gather.specs.Accepting.{kept_of, last_of, is_offset}
 use Rattle.sf_gather.specs.Chunks.{first_us}
 
--- A sample can stand behind the last one, at so many ticks a second.
+-- A sample can stand after the last one, at so many ticks a second.
 pub record Follows (scale : ℕ) (last : Option LastSample) (sample : Stored) : Type 0 where
   pub time : sample.dts_us ≤ 2 ^ 48
   pub rises : IfSome last (λ l. l.dts_us ≤ sample.dts_us)
@@ -19,7 +19,7 @@ pub record Follows (scale : ℕ) (last : Option LastSample) (sample : Stored) : 
   pub some : 1 ≤ length sample.bytes
   pub size : length sample.bytes ≤ 2 ^ 25
 
--- Each sample of a list can stand behind the one before it, and the first one behind the last of an earlier list.
+-- Each sample of a list can stand after the one before it, and the first one after the last of an earlier list.
 abbrev pub AllFollow : ℕ → Option LastSample → List Stored → Type 0
 AllFollow scale last [] = Unit {0}
 AllFollow scale last (sample ∷ samples) = Follows scale last sample × AllFollow scale (Some (kept_of sample)) samples

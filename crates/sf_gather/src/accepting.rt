@@ -100,7 +100,7 @@ fn fault_alone(given: &Given, sample: &Sample) -> Option<SampleFault>
     }
 }
 
-// What is wrong with a sample behind the last accepted one, if anything.
+// What is wrong with a sample after the last accepted one, if anything.
 fn fault_behind(
     given: &Given,
     last: &LastSample,

@@ -36,7 +36,7 @@ impl Model for Gather {
 
     ghost Value = { Gathered };
 
-    ghost use Rattle.sf_gather.specs.Sound.{Sound};
+    ghost use Rattle.sf_gather.specs.inner.Sound.{Sound};
 
     ghost view = { λ g. record { given = g.given; chunk = g.chunk; last = g.last } };
 

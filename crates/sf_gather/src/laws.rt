@@ -14,7 +14,7 @@ ghost use Rattle.sf_gather.specs.Proper.{AllFollow, Extends, Proper, tail_of};
 use super::given::Given;
 
 /// A law: from each chunk on, that chunk is the longest front of the samples left whose every later
-/// sample belongs to the chunk so far, and the sample behind it begins the next chunk.
+/// sample belongs to the chunk so far, and the sample after it begins the next chunk.
 pub fn longest_front(given: Given)
     ensures whole { (number : ℕ) (so_far samples : List Stored) → front given so_far samples ≡ samples
         → chunks_from given number so_far samples ≡ chunk_of given number true (so_far ++ samples) ∷ [] }
@@ -40,7 +40,7 @@ pub fn closed_chunks_stay(given: Given)
 {}
 
 /// A law: the samples in front of the first one that is refused are accepted one after the other,
-/// and where one more is accepted behind them all, it is one of theirs.
+/// and where one more is accepted after them all, it is one of theirs.
 pub fn accepted_samples(given: Given)
     ensures follow { (samples : List Sample) → AllByRecursion IsSized samples → AllFollow given.scale None (plain given samples) }
     ensures more { (samples : List Sample) (next : Sample) → length (plain given samples) ≡ length samples

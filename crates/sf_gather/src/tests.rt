@@ -32,7 +32,7 @@ struct Fed {
     fault: Option<SampleFault>,
 }
 
-/// Puts a chunk that was handed out behind the others.
+/// Puts a chunk that was handed out after the others.
 fn keep(chunks: &mut Vec<Chunk>, closed: Option<Chunk>) -> Result<(), AllocError> {
     if let Some(chunk) = closed {
         chunks.push(chunk)?;

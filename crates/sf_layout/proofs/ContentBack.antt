@@ -12,14 +12,12 @@ use Rattle.sf_entry.specs.declared.track_setup.TrackSetup.{TrackSetup}
 use Rattle.sf_meaning.specs.Movie.{tracks_of, header_scale, only_moov}
 use Rattle.sf_meaning.specs.Joined.{Held, content, begins_at, later, moved, joined}
 use Rattle.sf_meaning.specs.Groups.{Group, counts_among, traks_in, chunk_counts, groups}
-use Rattle.sf_meaning.specs.Layout.{held_as, timed}
+use Rattle.sf_meaning.specs.Rows.{held_as, timed}
 use Rattle.sf_meaning.specs.Written.{held_since}
 use Rattle.sf_meaning.specs.Stbl.{Timed, counts_in_rows}
 use Rattle.sf_meaning.proofs.MeaningLaws.{since_start}
-use Rattle.sf_layout.specs.Layout.{samples_of, stored_bytes, track_samples, track_rows, first_us, lead_of, movie_box, layout}
-use Rattle.sf_layout.specs.Layout.{tracks_of as held_tracks}
-use Rattle.sf_layout.specs.Written.{first_tick, base_of, written_track, written_tracks, track_groups}
-use Rattle.sf_layout.specs.Written.{start_in as file_start}
+use Rattle.sf_layout.specs.Layout.{samples_of, stored_bytes, track_samples, track_rows, first_us, lead_of, movie_box, layout, tracks_of as held_tracks}
+use Rattle.sf_layout.specs.Written.{first_tick, base_of, written_track, written_tracks, track_groups, start_in as file_start}
 use Rattle.sf_layout.specs.Writable.{IsTimed, Rises, AllRise, WritableTrack, AllWritable, Writable}
 use Rattle.sf_layout.proofs.Timing.{ticks_rise}
 use Rattle.sf_layout.proofs.TrackRows.{rows_shown, rows_cut}

@@ -6,9 +6,7 @@ use Rattle.sf_tick.specs.declared.types.Kind.TheVariants.{Avc, Aac}
 use Rattle.sf_tick.specs.declared.types.Stored.{Stored}
 use Rattle.sf_tick.specs.declared.types.Chunk.{Chunk}
 use Rattle.sf_entry.specs.declared.track_setup.TrackSetup.{TrackSetup}
-use Rattle.sf_meaning.specs.Entry.{aac_entry}
-use Rattle.sf_meaning.specs.Stbl.{stts_body, stsz_body, stsc_body, stco_body}
-use Rattle.sf_meaning.specs.Layout.{stbl_box}
+use Rattle.sf_meaning.specs.Stbl.{stts_body, stsz_body, stsc_body, stco_body, stbl_box}
 use Rattle.sf_layout.specs.Headers.{mvhd_body, tkhd_body, elst_body}
 use Rattle.sf_layout.specs.MovieBox.{minf_body, mdia_body, trak_body, moov_of}
 use Rattle.sf_layout.specs.Layout.{movie_box, layout}
@@ -27,7 +25,7 @@ abbrev video : List ℕ → TrackSetup
 video entry = record { kind = Avc; scale = 90000; width = 640; height = 360; entry = entry }
 
 -- one track of sound, with three samples of four bytes
-one_track : length (layout (sound aac_entry ∷ []) (chunk 0 0 0 (sample 0 0 (codes "abcd") ∷ sample 21333 1024 (codes "efgh") ∷ sample 42667 2048 (codes "ijkl") ∷ []) ∷ [])) ≡ 640
+one_track : length (layout (sound (replicate 87 0) ∷ []) (chunk 0 0 0 (sample 0 0 (codes "abcd") ∷ sample 21333 1024 (codes "efgh") ∷ sample 42667 2048 (codes "ijkl") ∷ []) ∷ [])) ≡ 640
 unfolding layout movie_box moov_of trak_body mdia_body minf_body mvhd_body tkhd_body stbl_box tiled box_of wide_box be16 be32 be64 stts_body stsz_body stsc_body stco_body
 one_track = refl
 

@@ -14,14 +14,12 @@ use Rattle.sf_meaning.specs.Steps.{of_kind}
 use Rattle.sf_meaning.specs.Headers.{timescale_in, start_in}
 use Rattle.sf_meaning.specs.Tracks.{tracks_in}
 use Rattle.sf_meaning.specs.Movie.{tracks_of, header_scale, in_moov, movie_in, only_moov, movie}
-use Rattle.sf_meaning.specs.Layout.{ftyp_body, in_udta}
+use Rattle.sf_layout.specs.Headers.{ftyp_body, longest, mvhd_body}
+use Rattle.sf_meaning.specs.WrittenHeaders.{in_udta}
 use Rattle.sf_meaning.specs.declared.movie.PlainTrack.{PlainTrack}
 use Rattle.sf_meaning.proofs.MeaningLaws.{kinds_fit, scale_read, start_read}
-use Rattle.sf_layout.specs.Headers.{longest, mvhd_body}
-use Rattle.sf_layout.specs.MovieBox.{trak_body, traks_from, moov_of}
-use Rattle.sf_layout.specs.MovieBox.{in_moov as moov_holds}
-use Rattle.sf_layout.specs.Layout.{samples_of, stored_bytes, stbl_of, head_of, movie_box, layout}
-use Rattle.sf_layout.specs.Layout.{tracks_of as held_tracks}
+use Rattle.sf_layout.specs.MovieBox.{trak_body, traks_from, moov_of, in_moov as moov_holds}
+use Rattle.sf_layout.specs.Layout.{samples_of, stored_bytes, stbl_of, head_of, movie_box, layout, tracks_of as held_tracks}
 use Rattle.sf_layout.specs.Written.{start_in as file_start, written_tracks, written_movie}
 use Rattle.sf_layout.specs.Writable.{Writable}
 use Rattle.sf_layout.specs.declared.heads.TrackHead.{TrackHead}

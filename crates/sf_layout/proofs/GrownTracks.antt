@@ -7,7 +7,7 @@ use Rattle.sf_box.proofs.BoxLaws.{length-box_of, length-wide_box}
 use Rattle.sf_tick.specs.declared.types.Stored.{Stored}
 use Rattle.sf_tick.specs.declared.types.Chunk.{Chunk}
 use Rattle.sf_entry.specs.declared.track_setup.TrackSetup.{TrackSetup}
-use Rattle.sf_meaning.specs.Layout.{ftyp_body}
+use Rattle.sf_layout.specs.Headers.{ftyp_body}
 use Rattle.sf_layout.specs.Layout.{samples_of, stored_bytes, track_samples, track_rows, first_us, TrackRows, tracks_from, tracks_of, first_with, track_with, movie_box, layout}
 use Rattle.sf_layout.proofs.GrownRows.{rows_grown, rows_kept, samples_grown, samples_kept}
 

@@ -9,7 +9,7 @@ use Rattle.sf_box.proofs.BoxLaws.{length-tiled-cons}
 use Rattle.sf_tick.specs.declared.types.Kind.{Kind}
 use Rattle.sf_tick.specs.declared.types.Kind.TheVariants as kinds
 use Rattle.sf_meaning.specs.Stbl.{Row, stbl_parts}
-use Rattle.sf_meaning.specs.Layout.{in_dinf}
+use Rattle.sf_meaning.specs.WrittenHeaders.{in_dinf}
 use Rattle.sf_meaning.specs.TrackHeads.{media_in, information_in, heads_in}
 use Rattle.sf_meaning.specs.Edits.{shift_of}
 use Rattle.sf_meaning.proofs.MeaningLaws.{kinds_fit, inside_read, scale_read, dinf_read, heads_by}

@@ -5,9 +5,9 @@ use Rattle.sf_box.specs.Boxes.{box_of}
 use Rattle.sf_box.specs.Parts.{Part, tiled}
 use Rattle.sf_box.proofs.BoxLaws.{tiled-append}
 use Rattle.sf_tick.specs.declared.types.Kind.{Kind}
-use Rattle.sf_meaning.specs.Stbl.{Row, stbl_parts}
-use Rattle.sf_meaning.specs.Layout.{mdhd_body, in_dinf, stbl_box}
-use Rattle.sf_layout.specs.Headers.{tkhd_body, edts_parts, hdlr_body, media_header}
+use Rattle.sf_meaning.specs.Stbl.{Row, stbl_parts, stbl_box}
+use Rattle.sf_layout.specs.Headers.{mdhd_body, tkhd_body, edts_parts, hdlr_body, media_header}
+use Rattle.sf_meaning.specs.WrittenHeaders.{in_dinf}
 use Rattle.sf_layout.specs.MovieBox.{minf_body, mdia_body, trak_body}
 use Rattle.sf_layout.specs.declared.heads.TrackHead.{TrackHead}
 

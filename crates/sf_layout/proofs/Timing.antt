@@ -6,7 +6,7 @@ use Rattle.sf_tick.specs.Tick.{tick}
 use Rattle.sf_tick.specs.declared.types.Stored.{Stored}
 use Rattle.sf_tick.proofs.TickLaws.{tick_rises}
 use Rattle.sf_meaning.specs.Stbl.{differences, deltas_of}
-use Rattle.sf_meaning.specs.Layout.{decodes_of}
+use Rattle.sf_meaning.specs.Rows.{decodes_of}
 use Rattle.sf_meaning.specs.Writable.{Paced, PacedFrom}
 use Rattle.sf_layout.specs.Written.{first_tick}
 use Rattle.sf_layout.specs.Writable.{IsTimed, Rises, AllRise}

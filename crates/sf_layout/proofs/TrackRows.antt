@@ -10,7 +10,7 @@ use Rattle.sf_meaning.specs.Joined.{Held, held_in_file}
 use Rattle.sf_meaning.specs.Groups.{Group, cut}
 use Rattle.sf_meaning.specs.Tracks.{held_in}
 use Rattle.sf_meaning.specs.Stbl.{Timed, timed_of, ticks_of, places_in_rows, counts_in_rows}
-use Rattle.sf_meaning.specs.Layout.{decodes_of, timed}
+use Rattle.sf_meaning.specs.Rows.{decodes_of, timed}
 use Rattle.sf_meaning.specs.Written.{samples_at, listed, held_since}
 use Rattle.sf_meaning.specs.Writable.{PacedFrom, Sized, Tellable}
 use Rattle.sf_meaning.specs.declared.movie.PlainSample.{PlainSample}

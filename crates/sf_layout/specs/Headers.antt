@@ -1,12 +1,29 @@
 -- The headers of a file of several tracks, as they are written.
-use Rattle.std.specs.Prelude.{ℕ, ◌+◌, ◌==◌, max, if◌then◌else◌, List, [], ◌∷◌, ◌++◌, replicate, codes}
+use Rattle.std.specs.Prelude.{ℕ, ◌+◌, ◌*◌, ◌/◌, ◌==◌, max, if◌then◌else◌, List, [], ◌∷◌, ◌++◌, replicate, codes}
 use Rattle.sf_box.specs.Boxes.{be16, be32, be64}
 use Rattle.sf_box.specs.Parts.{Part, tiled}
 use Rattle.sf_tick.specs.declared.types.Kind.{Kind}
 use Rattle.sf_tick.specs.declared.types.Kind.TheVariants.{Avc, Aac}
 pub use Rattle.sf_meaning.specs.Stbl.{zeros}
-pub use Rattle.sf_meaning.specs.Layout.{matrix, duration_bytes, header_times, microseconds}
+pub use Rattle.sf_meaning.specs.WrittenHeaders.{duration_bytes, header_times}
 use Rattle.sf_layout.specs.declared.heads.TrackHead.{TrackHead}
+
+-- how long so many ticks are in microseconds
+abbrev pub microseconds : ℕ → ℕ → ℕ
+microseconds scale duration = duration * 1000000 / scale
+
+-- the identity transformation (8.2.2)
+abbrev pub matrix : List ℕ
+matrix =
+    (0 ∷ 1 ∷ 0 ∷ 0 ∷ []) ++ (zeros 12 ++ ((0 ∷ 1 ∷ 0 ∷ 0 ∷ []) ++ (zeros 12 ++ (64 ∷ 0 ∷ 0 ∷ 0 ∷ []))))
+
+-- brands: mp42, version 0, and that it is also isom (4.3)
+abbrev pub ftyp_body : List ℕ
+ftyp_body = codes "mp42" ++ (zeros 4 ++ (codes "isom" ++ codes "mp42"))
+
+-- the media header: ticks a second, the duration in them, no language (8.4.2)
+abbrev pub mdhd_body : ℕ → ℕ → List ℕ
+mdhd_body scale duration = header_times 0 duration ++ (be32 scale ++ (duration_bytes duration ++ (0x55 ∷ 0xC4 ∷ 0 ∷ 0 ∷ [])))
 
 -- one of two, for video and for sound
 abbrev pub for_kind : {A : Type 0} → Kind → A → A → A

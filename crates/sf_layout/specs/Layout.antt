@@ -5,9 +5,9 @@ pub use Rattle.sf_tick.specs.Samples.{samples_of}
 use Rattle.sf_tick.specs.declared.types.Stored.{Stored}
 use Rattle.sf_tick.specs.declared.types.Chunk.{Chunk}
 use Rattle.sf_entry.specs.declared.track_setup.TrackSetup.{TrackSetup}
-use Rattle.sf_meaning.specs.Stbl.{Row, duration_in_rows}
-pub use Rattle.sf_meaning.specs.Layout.{stored_bytes, row_at}
-use Rattle.sf_meaning.specs.Layout.{ftyp_body, stbl_box}
+use Rattle.sf_meaning.specs.Stbl.{Row, duration_in_rows, stbl_box}
+pub use Rattle.sf_meaning.specs.Rows.{stored_bytes, row_at}
+use Rattle.sf_layout.specs.Headers.{ftyp_body}
 use Rattle.sf_layout.specs.MovieBox.{moov_of}
 use Rattle.sf_layout.specs.declared.heads.TrackHead.{TrackHead}
 

@@ -3,8 +3,8 @@ use Rattle.std.specs.Prelude.{ℕ, ◌+◌, List, [], ◌∷◌, ◌++◌, lengt
 use Rattle.sf_box.specs.Boxes.{box_of}
 use Rattle.sf_box.specs.Parts.{Part, tiled}
 use Rattle.sf_tick.specs.declared.types.Kind.{Kind}
-use Rattle.sf_meaning.specs.Layout.{mdhd_body, in_dinf, in_udta}
-use Rattle.sf_layout.specs.Headers.{mvhd_body, tkhd_body, edts_parts, hdlr_body, media_header, longest}
+use Rattle.sf_layout.specs.Headers.{mdhd_body, mvhd_body, tkhd_body, edts_parts, hdlr_body, media_header, longest}
+use Rattle.sf_meaning.specs.WrittenHeaders.{in_dinf, in_udta}
 use Rattle.sf_layout.specs.declared.heads.TrackHead.{TrackHead}
 
 -- the body of the media information box (8.4.4), which ends with the sample table box

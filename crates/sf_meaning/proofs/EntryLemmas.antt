@@ -52,7 +52,7 @@ rising_lower s t (x ∷ xs) le e =
     let lower : ltb s x ≡ true = lt-ltb s x (omega arith) in
     rw (lower, p.1) refl
 
--- the entry that holds for a chunk holds in it, and the others in those behind it
+-- the entry that holds for a chunk holds in it, and the others in those after it
 pub chunk_step : (r : ChunkRun) (behind : List ChunkRun) (i chunks : ℕ) → i < chunks → rising (i + 1) (firsts behind) ≡ true
     → take (chunks - i) (spread_over (from_chunk (i + 1) r ∷ spreads_as behind) chunks)
     ≡ record { per = r.per; description = r.description } ∷ take (chunks - (i + 1)) (spread_over (from_chunk (i + 1 + 1) r ∷ spreads_as behind) chunks)

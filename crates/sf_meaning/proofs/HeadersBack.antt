@@ -13,7 +13,7 @@ use Rattle.sf_meaning.specs.TrackHeads.{media_in, information_in, heads_in}
 use Rattle.sf_meaning.specs.declared.elst.Shift.{Shift}
 use Rattle.sf_meaning.specs.References.{own_files, references_in, references_of}
 use Rattle.sf_meaning.specs.Stbl.{zeros}
-use Rattle.sf_meaning.specs.Layout.{is_long, header_times, in_dinf, in_udta, dref_body}
+use Rattle.sf_meaning.specs.WrittenHeaders.{is_long, header_times, in_dinf, in_udta, dref_body}
 
 -- the bodies of boxes that tile so few bytes are no longer
 pub kinds_fit : (ps : List Part) → AllByRecursion (λ p. length p.0 ≡ 4) ps → length (tiled ps) < 2 ^ 32 - 8 → AllByRecursion Fits ps

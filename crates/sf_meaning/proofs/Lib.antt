@@ -5,10 +5,8 @@ pub mod TimedLemmas
 pub mod RowLemmas
 pub mod TablesRead
 pub mod ChunkLemmas
-pub mod MovieParts
 pub mod HeadersBack
 pub mod TrackBack
-pub mod ReadBack
 pub mod EntryLemmas
 pub mod ListedSamples
 pub mod SampleLemmas

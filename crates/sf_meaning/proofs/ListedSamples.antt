@@ -37,7 +37,7 @@ description_step : (description left : ℕ) (rest : List ℕ) → 0 < left → r
 description_step description zero rest lt = absurd (omega (arith, lt))
 description_step description (suc k) rest lt = let e : suc k - 1 ≡ k = omega arith in rw e refl
 
--- the places behind a sample
+-- the places after a sample
 abbrev pub behind : Places → ℕ → Places
 behind here size = record { place = here.place + size; left = here.left - 1; description = here.description; chunks = here.chunks }
 

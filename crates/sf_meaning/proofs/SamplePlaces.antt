@@ -113,7 +113,7 @@ in_first p ps e es sizes i sized lt =
           ∙ get_or-replicate e.per i e.description 0 lt;
     }
 
--- the chunk behind the first one
+-- the chunk after the first one
 least_behind : (n : ℕ) (ns : List ℕ) (i c : ℕ) → n ≤ i → IsChunkOf ns (i - n) c → (d : ℕ) → i < sum (take (d + 1) (n ∷ ns)) → suc c ≤ d
 least_behind n ns i c le k zero h =
     let one : sum (take 1 (n ∷ ns)) ≡ n = omega arith in

@@ -22,7 +22,7 @@ Wide n = n < 2 ^ 64
 abbrev pub WordPair : ℕ × ℕ → Type 0
 WordPair run = Word run.0 × Word run.1
 
--- numbers behind two others
+-- numbers after two others
 pub after_two : (a b : ℕ) (rest : List ℕ) → drop 8 (be32 a ++ (be32 b ++ rest)) ≡ rest
 after_two a b rest = sym (drop-drop 4 4 (be32 a ++ (be32 b ++ rest))) ∙ ap (drop 4) (drop_word a (be32 b ++ rest)) ∙ drop_word b rest
 

@@ -42,7 +42,7 @@ tracks_begin bytes scale number traks = same (tracks_in bytes scale number traks
   same (Ok ts) = refl
   same (Err e) = refl
 
--- the box behind the first 64
+-- the box after the first 64
 pub behind_64 : (fs : List Found) (x : Found) → 64 < length fs → x ≡ get_or fs 64 x → first_of (drop 64 (pieces fs)) ≡ Some (piece x)
 behind_64 fs x lt e = ap first_of (drop-map piece 64 fs ∙ ap pieces (drop_more fs 64 x lt)) ∙ ap (λ (y : Found). Some (piece y)) (sym e)
 

@@ -1,6 +1,5 @@
 pub mod Answers
 pub mod Steps
-pub mod Entry
 pub mod Tables
 pub mod ReadTables
 pub mod Headers
@@ -18,7 +17,8 @@ pub mod Joined
 pub mod Groups
 pub mod SampleAt
 pub mod Stbl
-pub mod Layout
+pub mod Rows
+pub mod WrittenHeaders
 pub mod Writable
 pub mod Written
 pub mod inner

@@ -1,8 +1,8 @@
 -- The sample table box of a track as it is written (8.5.1), from the chunks of the track as they stand in the file.
 use Rattle.std.specs.Prelude.{ℕ, ◌+◌, ◌-◌, ◌^◌, ◌%◌, ◌==◌, nat_lt, nat_le, Bool, List, [], ◌∷◌, ◌++◌, length, map, sum, codes, if◌then◌else◌}
 use Rattle.std.specs.List.{flat_map, list_all}
-use Rattle.sf_box.specs.Boxes.{be32, be64}
-use Rattle.sf_box.specs.Parts.{Part}
+use Rattle.sf_box.specs.Boxes.{box_of, be32, be64}
+use Rattle.sf_box.specs.Parts.{Part, tiled}
 pub use Rattle.sf_entry.specs.Mp4a.{zeros}
 use Rattle.sf_meaning.specs.Tables.{Spread}
 
@@ -154,3 +154,7 @@ stbl_parts entry rows =
     ++ ((codes "stsz", stsz_body (sizes_in_rows rows))
     ∷ (codes "stsc", stsc_body (counts_in_rows rows))
     ∷ places_part (places_in_rows rows) ∷ [])))
+
+-- the sample table box of rows
+unfoldable pub stbl_box : List ℕ → List Row → List ℕ
+stbl_box entry rows = box_of (codes "stbl") (tiled (stbl_parts entry rows))

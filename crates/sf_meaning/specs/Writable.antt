@@ -1,11 +1,8 @@
 -- Chunks of which a file is read back.
 use Rattle.std.specs.Prelude.{◌≡◌, ℕ, ◌+◌, ◌-◌, ◌*◌, ◌^◌, ◌<◌, ◌≤◌, List, [], ◌∷◌, length}
 use Rattle.std.specs.List.{AllByRecursion}
-use Rattle.sf_tick.specs.Tick.{tick}
 use Rattle.sf_tick.specs.declared.types.Stored.{Stored}
-use Rattle.sf_tick.specs.declared.types.Chunk.{Chunk}
 use Rattle.sf_meaning.specs.Stbl.{Timed, Row, timed_of, ticks_of, places_in_rows, duration_in_rows}
-use Rattle.sf_meaning.specs.Layout.{samples_of, decodes_of, stored_bytes, duration_of, length_us_of, first_dts, movie_box_of}
 
 -- a sample that is neither empty nor too long, and whose composition offset has four bytes
 pub record IsWritable (s : Stored) : Type 0 where
@@ -38,17 +35,3 @@ pub record Tellable (scale base : ℕ) (rs : List Row) : Type 0 where
   pub few : length (timed_of rs) ≤ 16777216
   pub early : duration_in_rows rs ≤ 2 ^ 40 * scale
   pub places : AllByRecursion (λ p. p < 2 ^ 64) (places_in_rows rs)
-
--- Chunks of one track that a file with this timescale and this sample entry holds and that are read back: their fields fit, no header needs its long form (8.2.2, 8.4.2), and neither the samples nor the movie box pass what is read.
-pub record Writable (scale : ℕ) (entry : List ℕ) (chunks : List Chunk) : Type 0 where
-  pub scale_some : 1 ≤ scale
-  pub scale_fits : scale < 2 ^ 32
-  pub filled : AllByRecursion (λ c. 0 < length c.samples) chunks
-  pub each : AllByRecursion IsWritable (samples_of chunks)
-  pub paced : PacedFrom (tick (first_dts (samples_of chunks)) scale) (decodes_of (samples_of chunks))
-  pub start : first_dts (samples_of chunks) < 2 ^ 64
-  pub few : length (samples_of chunks) ≤ 16777216
-  pub duration : duration_of chunks < 2 ^ 32 - 1
-  pub length_us : length_us_of scale chunks < 2 ^ 32 - 1
-  pub payload : 40 + length (stored_bytes (samples_of chunks)) < 2 ^ 64
-  pub moov : length (movie_box_of scale entry chunks) ≤ 2 ^ 28

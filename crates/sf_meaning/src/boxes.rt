@@ -55,7 +55,7 @@ pub(crate) fn first<'a>(boxes: &[Found<'a>], kind: FourCc) -> Option<Found<'a>>
 }
 
 /// The boxes of a type, in order.
-pub(crate) fn of_kind<'a>(
+pub fn of_kind<'a>(
     alloc: Global,
     boxes: &[Found<'a>],
     kind: FourCc,

@@ -8,7 +8,7 @@ ghost use Rattle.sf_meaning.specs.Tables.{chunk_entries, spread_over, rising};
 use crate::entries::{ChunkAt, ChunkRun};
 use std::alloc::{AllocError, Global};
 
-// The entry that holds for a chunk, and those behind it, where the current one holds up to it.
+// The entry that holds for a chunk, and those after it, where the current one holds up to it.
 fn entry_for<'a>(
     number: u32,
     current: ChunkRun,

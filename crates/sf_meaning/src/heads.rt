@@ -16,11 +16,7 @@ use sf_list::Items;
 use std::alloc::Global;
 
 /// The boxes that tile bytes from a place on.
-pub(crate) fn boxes_at<'a>(
-    alloc: Global,
-    bytes: &'a [u8],
-    at: u64,
-) -> Result<Items<Found<'a>>, HeadFault>
+pub fn boxes_at<'a>(alloc: Global, bytes: &'a [u8], at: u64) -> Result<Items<Found<'a>>, HeadFault>
     requires { at + length bytes.now < 2 ^ 64 }
     ensures { Gives HeadFault.NoMemory pieces result (as_fault heads.Tiling (boxes false at bytes.now)) }
 {

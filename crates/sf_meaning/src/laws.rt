@@ -11,43 +11,25 @@ ghost use Rattle.sf_tick.specs.declared.types.Chunk.{Chunk};
 ghost use Rattle.sf_tick.specs.declared.types.Stored.{Stored};
 ghost use Rattle.sf_entry.specs.Stsd.{entries_of, stsd_of};
 ghost use Rattle.sf_entry.specs.declared.types.EntryAt.{EntryAt};
-ghost use Rattle.sf_meaning.specs.Entry.{aac_entry};
 ghost use Rattle.sf_meaning.specs.Edits.{shift_of};
-ghost use Rattle.sf_meaning.specs.Groups.{counts_in_trak, group_of, groups};
+ghost use Rattle.sf_meaning.specs.Groups.{counts_in_trak, group_of};
 ghost use Rattle.sf_meaning.specs.Headers.{inside, start_in, timescale_in};
-ghost use Rattle.sf_meaning.specs.Joined.{content, held_in_file, joined, later};
-ghost use Rattle.sf_meaning.specs.Layout.{decodes_of, header_times, held_as, in_dinf, in_udta, layout, rows_from, stored_bytes, timed};
-ghost use Rattle.sf_meaning.specs.Movie.{movie, movie_in};
+ghost use Rattle.sf_meaning.specs.Joined.{held_in_file, later};
+ghost use Rattle.sf_meaning.specs.Rows.{decodes_of, held_as, rows_from, stored_bytes, timed};
+ghost use Rattle.sf_meaning.specs.WrittenHeaders.{header_times, in_dinf, in_udta};
+ghost use Rattle.sf_meaning.specs.Movie.{movie_in};
 ghost use Rattle.sf_meaning.specs.References.{references_of};
 ghost use Rattle.sf_meaning.specs.TrackHeads.{heads_in, information_in, media_in};
 ghost use Rattle.sf_meaning.specs.TrackSamples.{Tables, samples_in};
 ghost use Rattle.sf_meaning.specs.Tracks.{held_in, kind_of, track_in};
 ghost use Rattle.sf_meaning.specs.SampleAt.{IsSampleAt};
 ghost use Rattle.sf_meaning.specs.Stbl.{Row, Timed, counts_in_rows, stbl_parts, ticks_of, timed_of};
-ghost use Rattle.sf_meaning.specs.Writable.{IsWritable, Tellable, Writable};
-ghost use Rattle.sf_meaning.specs.Written.{base_of, groups_from, held_since, listed, samples_at, written_movie};
+ghost use Rattle.sf_meaning.specs.Writable.{IsWritable, Tellable};
+ghost use Rattle.sf_meaning.specs.Written.{held_since, listed, samples_at};
 ghost use Rattle.sf_meaning.specs.declared.elst.Shift.{Shift};
 ghost use Rattle.sf_meaning.specs.declared.movie.PlainMovie.{PlainMovie};
 ghost use Rattle.sf_meaning.specs.declared.movie.PlainSample.{PlainSample};
 ghost use Rattle.sf_meaning.specs.declared.movie.TrackKind.{TrackKind};
-
-/// The law of a written file: it is read as the movie of its chunks, with the times, flags and places of
-/// their samples. The chunks stand from the content of the media data on, which begins at 40.
-pub fn layout_is_movie()
-    ensures movie { (scale : ℕ) (chunks : List Chunk) → Writable scale aac_entry chunks
-        → movie (layout scale aac_entry chunks) ≡ Ok (written_movie scale chunks) }
-    ensures content { (scale : ℕ) (chunks : List Chunk) → Writable scale aac_entry chunks
-        → content (layout scale aac_entry chunks) 0 ≡ Some (map (held_since (base_of scale chunks)) (samples_of chunks)) }
-    ensures groups { (scale : ℕ) (chunks : List Chunk) → Writable scale aac_entry chunks
-        → groups (layout scale aac_entry chunks) 0 ≡ Some (groups_from (base_of scale chunks) 40 chunks) }
-{}
-
-/// A law: the samples of a file that was laid out are those of its chunks, each once, in order, with their
-/// bytes, their sync flags and their times from the series' start.
-pub fn layout_is_read_back()
-    ensures { (scale : ℕ) (chunks : List Chunk) → Writable scale aac_entry chunks
-        → joined (layout scale aac_entry chunks ∷ []) 0 ≡ Some (map held_as (samples_of chunks)) }
-{}
 
 /// A law: what the tables of a track say of each of its samples, by itself: the place, the size, the ticks,
 /// the flag and the description, in the least chunk whose counts up to it sum past the sample's number.

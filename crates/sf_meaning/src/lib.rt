@@ -4,8 +4,8 @@
 //! stands on `specs/Tracks.antt` for a track, `specs/TrackHeads.antt` for its headers and
 //! `specs/TrackSamples.antt` for its samples. `specs/Joined.antt` and `specs/Groups.antt` say which samples
 //! a file holds, all of them and chunk by chunk, and which a series of files; `specs/Shown.antt` when they
-//! are shown. `specs/Layout.antt` says which bytes the writer gives a file, and `specs/Stbl.antt` those of
-//! its tables. Which movie a file that was laid out is read as is a law, which `layout_is_movie` states.
+//! are shown. `specs/Stbl.antt` says which bytes the writer gives the tables of a track, and the law
+//! `tracks_are_read_back` that they are read back.
 //! `specs/Accepted.antt` says what holds of each movie that is accepted, by the law `accepted_movies`.
 //!
 //! Each `read_` function reads one box, exactly as its definition says. `plain_movie` and `plain_file` are
@@ -42,20 +42,21 @@ mod track_samples;
 mod track_tables;
 mod tracks;
 
-pub use boxes::boxes_in;
+pub use boxes::{boxes_in, of_kind};
 pub use ctts::read_ctts;
 pub use dref::read_dref;
 pub use elst::{Edit, Shift, read_elst};
 pub use entries::{ChunkAt, ChunkRun, TimeRun};
 pub use faults::{HeadFault, MovieFault, TableFault};
 pub use found::Found;
+pub use heads::boxes_at;
 pub use laws::{
-    accepted_movies, chunks_in_a_file, few_bytes_fit, headers_are_read_back, layout_is_movie,
-    layout_is_read_back, rows_list_samples, samples_one_by_one, tracks_are_read_back,
+    accepted_movies, chunks_in_a_file, few_bytes_fit, headers_are_read_back, rows_list_samples,
+    samples_one_by_one, tracks_are_read_back,
 };
 pub use listing::offset_in;
 pub use movie::{PlainMovie, PlainSample, PlainTrack, TrackKind};
-pub use movie_box::plain_movie;
+pub use movie_box::{header_scale, in_moov, movie_scale, plain_movie, start_told, tracks_of};
 pub use movie_file::plain_file;
 pub use places::read_places;
 pub use run_sums::sum_of_first;
@@ -68,8 +69,10 @@ pub use stsc::read_stsc;
 pub use stss::read_stss;
 pub use stts::read_stts;
 pub use timescale::read_timescale;
+pub use track_heads::{TrackHeads, body_at, heads_in};
 pub use track_samples::{chunks_of, say_samples};
 pub use track_tables::{Tables, tables_told};
+pub use tracks::{entries_told, heads_told, kind_in, table_boxes};
 
 #[cfg(test)]
 mod tests;

@@ -30,7 +30,7 @@ fn in_run(times: Times<'_>) -> Times<'_>
     now
 }
 
-// The next decode time, and those behind it.
+// The next decode time, and those after it.
 pub(crate) fn next_time<'a>(times: Times<'a>) -> (u64, Times<'a>)
     requires some { 0 < time_count times }
     requires fits { times.decode + 2 ^ 32 < 2 ^ 64 }
@@ -84,7 +84,7 @@ pub fn offset_in(version: u8, word: u32) -> i64
     }
 }
 
-// The next composition offset, which is 0 where none is left, and those behind it.
+// The next composition offset, which is 0 where none is left, and those after it.
 pub(crate) fn next_offset<'a>(offsets: Offsets<'a>) -> (i64, Offsets<'a>)
     ensures first { result.0 ≡ get_or (offsets_left offsets.entry) 0 (pos 0) }
     ensures behind { offsets_left result.1 ≡ drop 1 (offsets_left offsets.entry) }
@@ -106,7 +106,7 @@ pub(crate) fn next_offset<'a>(offsets: Offsets<'a>) -> (i64, Offsets<'a>)
     )
 }
 
-// Whether a number is the next of numbers that rise, none of them below it, and the numbers behind it.
+// Whether a number is the next of numbers that rise, none of them below it, and the numbers after it.
 fn next_number<'a>(numbers: &'a [u32], number: u32) -> (bool, &'a [u32])
     requires rising { rising (number - 1) numbers.now ≡ true }
     ensures here { result.0 ≡ is_sync (Some numbers.entry.now) number }
@@ -123,7 +123,7 @@ fn next_number<'a>(numbers: &'a [u32], number: u32) -> (bool, &'a [u32])
     }
 }
 
-// Whether the sample of a number, from 1, is sync, and which of those behind it are.
+// Whether the sample of a number, from 1, is sync, and which of those after it are.
 pub(crate) fn next_sync<'a>(syncs: Syncs<'a>, number: u32) -> (bool, Syncs<'a>)
     requires rising { Rises (number - 1) (syncs_left syncs) }
     ensures here { result.0 ≡ is_sync (syncs_left syncs.entry) number }

@@ -1,6 +1,7 @@
 //! The movie box (ISO/IEC 14496-12, 8.2.1), as the movie that it is.
 
-ghost use Rattle.std.specs.Prelude.{◌≡◌, ◌+◌, ◌^◌, ◌<◌, ◌≤◌, ◌⊎◌, length, OnOk, IfOk, IfErr, Ok, Err};
+ghost use Rattle.std.specs.Prelude.{◌≡◌, ◌+◌, ◌^◌, ◌<◌, ◌≤◌, ◌⊎◌, length, codes, OnOk, IfOk, IfErr, Ok, Err};
+ghost use Rattle.sf_box.specs.Parts.{child_piece};
 ghost use Rattle.sf_meaning.specs.Answers.{Gives};
 ghost use Rattle.sf_meaning.specs.inner.Found.{pieces, maybe_piece};
 ghost use Rattle.sf_meaning.specs.Headers.{start_in};
@@ -18,8 +19,8 @@ use sf_box::{BoxFault, ChildrenFault, FourCc};
 use sf_list::Items;
 use std::alloc::{AllocError, Global};
 
-// The boxes inside a movie box.
-fn in_moov<'a>(alloc: Global, moov: &'a [u8], at: u64) -> Result<Items<Found<'a>>, MovieFault>
+/// The boxes inside a movie box whose body begins at a place, or the first fault.
+pub fn in_moov<'a>(alloc: Global, moov: &'a [u8], at: u64) -> Result<Items<Found<'a>>, MovieFault>
     requires { at + length moov.now < 2 ^ 64 }
     ensures { Gives MovieFault.NoMemory pieces result (in_moov moov.now at) }
 {
@@ -55,9 +56,9 @@ fn few_tracks(traks: &[Found<'_>]) -> Result<(), MovieFault>
     Ok(())
 }
 
-// The tracks among the boxes of a movie box.
+/// The boxes of tracks among the boxes of a movie box, of which there are at most 64.
 #[tactic(auto, unfolding(crate::specs::Movie::tracks_of))]
-fn tracks_of<'a>(alloc: Global, boxes: &[Found<'a>]) -> Result<Vec<Found<'a>>, MovieFault>
+pub fn tracks_of<'a>(alloc: Global, boxes: &[Found<'a>]) -> Result<Vec<Found<'a>>, MovieFault>
     ensures found { Gives MovieFault.NoMemory (λ traks. pieces traks.items) result (tracks_of (pieces boxes.now)) }
     ensures few { IfOk result (λ traks. length traks.items ≤ 64) }
 {
@@ -67,17 +68,17 @@ fn tracks_of<'a>(alloc: Global, boxes: &[Found<'a>]) -> Result<Vec<Found<'a>>, M
     Ok(traks)
 }
 
-// Ticks a second, by the movie header among the boxes of a movie box.
+/// Ticks a second, by the movie header among the boxes of a movie box whose body begins at a place.
 #[tactic(auto, unfolding(crate::specs::Movie::header_scale))]
-fn header_scale(at: u64, boxes: &[Found<'_>]) -> Result<u32, HeadFault>
+pub fn header_scale(at: u64, boxes: &[Found<'_>]) -> Result<u32, HeadFault>
     ensures { Gives HeadFault.NoMemory (λ scale. scale) result (header_scale at (pieces boxes.now)) }
 {
     let mvhd = needed_in(at, FourCc(*b"mvhd"), boxes)?;
     read_timescale(mvhd.head, mvhd.body)
 }
 
-// The same as a step of the movie.
-fn movie_scale(at: u64, boxes: &[Found<'_>]) -> Result<u32, MovieFault>
+/// The same as a step of the movie.
+pub fn movie_scale(at: u64, boxes: &[Found<'_>]) -> Result<u32, MovieFault>
     ensures { Gives MovieFault.NoMemory (λ scale. scale) result (movie_scale at (pieces boxes.now)) }
 {
     let scale = header_scale(at, boxes)?;
@@ -92,6 +93,14 @@ fn start_of(alloc: Global, udta: Option<Found<'_>>) -> Result<u64, AllocError>
         Some(udta) => read_sfts(alloc, udta.head, udta.body),
         None => Ok(0),
     }
+}
+
+/// When the file starts, in microseconds after the series' start, by the first user data box among the
+/// boxes of a movie box; 0 where it doesn't say so.
+pub fn start_told(alloc: Global, boxes: &[Found<'_>]) -> Result<u64, AllocError>
+    ensures { IfOk result (λ start_us. start_us ≡ start_in (child_piece (pieces boxes.now) (codes "udta"))) }
+{
+    start_of(alloc, first(boxes, FourCc(*b"udta")))
 }
 
 /// The movie that the body of a movie box is, which begins at a place, of a file of so many bytes.
@@ -109,7 +118,7 @@ pub(crate) fn movie_in(
     let traks = tracks_of(alloc, boxes.as_slice())?;
     let scale = movie_scale(at, boxes.as_slice())?;
     let tracks = tracks_in(alloc, file_len, scale, &traks)?;
-    let start_us = start_of(alloc, first(boxes.as_slice(), FourCc(*b"udta")))?;
+    let start_us = start_told(alloc, boxes.as_slice())?;
     Ok(PlainMovie {
         scale,
         start_us,

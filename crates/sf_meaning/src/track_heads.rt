@@ -22,7 +22,7 @@ use std::alloc::Global;
 
 /// What the headers of a track say.
 #[derive(Drop)]
-pub(crate) struct TrackHeads<'a> {
+pub struct TrackHeads<'a> {
     /// Ticks a second of its media.
     pub scale: u32,
     pub shift: Shift,
@@ -32,8 +32,8 @@ pub(crate) struct TrackHeads<'a> {
     pub stbl: Found<'a>,
 }
 
-// Where the body of a box begins.
-pub(crate) fn body_at(found: Found<'_>) -> u64
+/// Where the body of a box begins.
+pub fn body_at(found: Found<'_>) -> u64
     ensures { result ≡ body_at (piece found.entry) }
 {
     found.head.at + found.head.head
@@ -98,7 +98,7 @@ fn information_in<'a>(alloc: Global, minf: Found<'a>) -> Result<(Items<bool>, Fo
 
 /// The headers of a track box of a movie with this timescale, or the first thing that is wrong with them.
 #[tactic(auto, unfolding(crate::specs::TrackHeads::heads_in))]
-pub(crate) fn heads_in<'a>(
+pub fn heads_in<'a>(
     alloc: Global,
     movie_scale: u32,
     trak: Found<'a>,

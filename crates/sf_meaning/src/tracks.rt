@@ -1,6 +1,6 @@
 //! The tracks of a movie (ISO/IEC 14496-12, 8.3.1), each read whole before the next.
 
-ghost use Rattle.std.specs.Prelude.{◌≡◌, ◌≤◌, length, codes, IfOk};
+ghost use Rattle.std.specs.Prelude.{◌≡◌, ◌^◌, ◌≤◌, ◌<◌, length, codes, IfOk};
 ghost use Rattle.sf_entry.specs.Stsd.{entries_of};
 ghost use Rattle.sf_meaning.specs.Answers.{Gives};
 ghost use Rattle.sf_meaning.specs.inner.Found.{piece, pieces};
@@ -25,8 +25,8 @@ use sf_entry::{Entries, Entry, EntryAt, read_stsd};
 use sf_list::Items;
 use std::alloc::Global;
 
-// The headers of a track.
-fn track_heads<'a>(
+/// The headers of a track of a movie with this timescale, as a step of the movie.
+pub fn heads_told<'a>(
     alloc: Global,
     movie_scale: u32,
     trak: Found<'a>,
@@ -37,8 +37,8 @@ fn track_heads<'a>(
     Ok(heads)
 }
 
-// The boxes inside a sample table box.
-fn table_boxes<'a>(alloc: Global, stbl: Found<'a>) -> Result<Items<Found<'a>>, MovieFault>
+/// The boxes inside a sample table box, as a step of the movie.
+pub fn table_boxes<'a>(alloc: Global, stbl: Found<'a>) -> Result<Items<Found<'a>>, MovieFault>
     ensures { Gives MovieFault.NoMemory pieces result (as_fault movies.Table (in_stbl (piece stbl.entry))) }
 {
     let boxes = in_stbl(alloc, stbl)?;
@@ -55,7 +55,8 @@ fn stsd_in<'a>(at: u64, boxes: &[Found<'a>]) -> Result<Found<'a>, MovieFault>
 
 // The entries of a sample description box.
 fn entries_in(alloc: Global, stsd: Found<'_>) -> Result<Entries, MovieFault>
-    ensures { Gives MovieFault.NoMemory (λ entries. entries) result (as_fault movies.Entry (entries_of (body_at (piece stsd.entry)) stsd.entry.body.now)) }
+    ensures entries { Gives MovieFault.NoMemory (λ entries. entries) result (as_fault movies.Entry (entries_of (body_at (piece stsd.entry)) stsd.entry.body.now)) }
+    ensures few { IfOk result (λ entries. length entries < 2 ^ 32) }
 {
     let entries = read_stsd(alloc, stsd.body, stsd.head.at + stsd.head.head)?;
     Ok(entries)
@@ -97,8 +98,8 @@ fn kind_of(entry: &Entry) -> TrackKind
     }
 }
 
-// What a track's samples are, by its first entry.
-fn kind_in(entries: &[EntryAt]) -> TrackKind
+/// What a track's samples are, by its first sample entry.
+pub fn kind_in(entries: &[EntryAt]) -> TrackKind
     ensures { result ≡ kind_in entries.now }
 {
     match entries {
@@ -107,15 +108,17 @@ fn kind_in(entries: &[EntryAt]) -> TrackKind
     }
 }
 
-// The sample entries among the boxes of a sample table box whose body begins at a place.
+/// The sample entries among the boxes of a sample table box whose body begins at a place. None of them lies
+/// in another file, by what is told of each data reference.
 #[tactic(auto, unfolding(crate::specs::Tracks::entries_told))]
-fn entries_told(
+pub fn entries_told(
     alloc: Global,
     own: &[bool],
     at: u64,
     boxes: &[Found<'_>],
 ) -> Result<Entries, MovieFault>
-    ensures { Gives MovieFault.NoMemory (λ entries. entries) result (entries_told own.now at (pieces boxes.now)) }
+    ensures told { Gives MovieFault.NoMemory (λ entries. entries) result (entries_told own.now at (pieces boxes.now)) }
+    ensures few { IfOk result (λ entries. length entries < 2 ^ 32) }
 {
     let stsd = stsd_in(at, boxes)?;
     let entries = entries_in(alloc, stsd)?;
@@ -143,7 +146,7 @@ fn track_in(
 ) -> Result<PlainTrack, MovieFault>
     ensures { Gives MovieFault.NoMemory (λ track. track) result (track_in file_len movie_scale number (piece trak.entry)) }
 {
-    let heads = track_heads(alloc, movie_scale, trak)?;
+    let heads = heads_told(alloc, movie_scale, trak)?;
     let boxes = table_boxes(alloc, heads.stbl)?;
     let at = body_at(heads.stbl);
     let entries = entries_told(alloc, heads.own.as_slice(), at, boxes.as_slice())?;

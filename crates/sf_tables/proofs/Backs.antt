@@ -37,7 +37,7 @@ pub runs_with : (n runs last x : ℕ) (xs : List ℕ) → n ≡ length xs → ru
 runs_with n runs last x [] count are l = rw count refl
 runs_with n runs last x (y ∷ ys) count are l = rw (count, some_of (length ys), l, are) (added (last_or y ys == x) (length (runs_of (y ∷ ys))) ∙ sym (runs_more y x ys))
 
--- the steps of times behind a first one
+-- the steps of times after a first one
 abbrev pub steps : ℕ → List ℕ → List ℕ
 steps t [] = []
 steps t (u ∷ ts) = (u - t) ∷ steps u ts

@@ -11,7 +11,7 @@ use Rattle.sf_tables.specs.declared.kept.KeptChunk.{KeptChunk}
 use Rattle.sf_tables.specs.declared.totals.SampleTotals.{SampleTotals}
 use Rattle.sf_tables.specs.declared.totals.ChunkTotals.{ChunkTotals}
 use Rattle.sf_tables.specs.inner.Kept.{OffsetFits, timed_kept, rows_kept, counts_kept, places_kept, stbl_from}
-use Rattle.sf_meaning.specs.Layout.{timed, row_at}
+use Rattle.sf_meaning.specs.Rows.{timed, row_at}
 use Rattle.sf_tables.specs.Rows.{Addable, AllHaveRoom, with_chunk, last_tick, last_in_rows}
 use Rattle.sf_tables.specs.inner.Totals.{CountsSamples, CountsChunks, Steady, after_chunk, after_samples, last_counted, last_or}
 use Rattle.sf_tables.specs.inner.Sound.{Sound}

@@ -23,7 +23,7 @@ begins x (y ∷ ys) =
     let b = begins y ys in
     rw b.are (begin_if (x == y) b.count x y b.others)
 
--- how often the value changes along a list, behind a first value
+-- how often the value changes along a list, after a first value
 abbrev pub turns : ℕ → List ℕ → ℕ
 turns x [] = 0
 turns x (y ∷ ys) = cond (x == y) 0 1 + turns y ys

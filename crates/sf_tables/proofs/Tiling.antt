@@ -86,7 +86,7 @@ stbl_tiled front entry ss places counts =
     = ap (λ (xs : List ℕ). box_of (codes "stsd") (stsd_body entry) ++ xs) (tiled-append (of_samples ss) (of_chunks places counts)) in
     rw parts (simp append_assoc)
 
--- what stands behind more bytes also stands behind the first of them
+-- what stands after more bytes also stands after the first of them
 pub grows_more : (old more mid new : List ℕ) → mid ≡ old ++ more → take (length mid) new ≡ mid → take (length old) new ≡ old
 grows_more old more mid new e g =
     let shorter : length old ≤ length mid = omega (arith, ap (λ (xs : List ℕ). length xs) e, length-append old more) in

@@ -3,13 +3,13 @@ use Rattle.std.specs.Prelude.{ℕ, ◌+◌, ◌^◌, ◌<◌, ◌≤◌, List, [
 use Rattle.sf_tick.specs.declared.types.Stored.{Stored}
 use Rattle.sf_tick.specs.declared.types.Chunk.{Chunk}
 use Rattle.sf_meaning.specs.Stbl.{Timed, Row, timed_of, ticks_of}
-use Rattle.sf_meaning.specs.Layout.{row_at, timed}
+use Rattle.sf_meaning.specs.Rows.{row_at, timed}
 
 -- the rows with one more chunk at the end
 abbrev pub with_chunk : List Row → ℕ → Chunk → List Row
 with_chunk rows place chunk = rows ++ row_at place chunk ∷ []
 
--- the last tick of a list that stands behind an earlier one
+-- the last tick of a list that stands after an earlier one
 abbrev pub last_tick : Option ℕ → List ℕ → Option ℕ
 last_tick before [] = before
 last_tick before (t ∷ ts) = last_tick (Some t) ts
@@ -18,7 +18,7 @@ last_tick before (t ∷ ts) = last_tick (Some t) ts
 abbrev pub last_in_rows : List Row → Option ℕ
 last_in_rows rows = last_tick None (ticks_of rows)
 
--- A sample's numbers have room in the tables behind the last tick: its delta and its size below 2 ^ 32, and its composition offset as a signed number of 32 bits (8.6.1.2, 8.6.1.3, 8.7.3).
+-- A sample's numbers have room in the tables after the last tick: its delta and its size below 2 ^ 32, and its composition offset as a signed number of 32 bits (8.6.1.2, 8.6.1.3, 8.7.3).
 pub record HasRoom (last : Option ℕ) (s : Timed) : Type 0 where
   pub rises : IfSome last (λ t. t ≤ s.decode)
   pub near : IfSome last (λ t. s.decode < t + 2 ^ 32)
@@ -26,7 +26,7 @@ pub record HasRoom (last : Option ℕ) (s : Timed) : Type 0 where
   pub early : s.decode ≤ s.compose + 2 ^ 31
   pub size : s.size < 2 ^ 32
 
--- Each sample has room behind the one before it, and the first one behind the last tick.
+-- Each sample has room after the one before it, and the first one after the last tick.
 abbrev pub AllHaveRoom : Option ℕ → List Timed → Type 0
 AllHaveRoom last [] = Unit {0}
 AllHaveRoom last (s ∷ ss) = HasRoom last s × AllHaveRoom (Some s.decode) ss
@@ -37,7 +37,7 @@ pub record Addable (rows : List Row) (chunk : Chunk) : Type 0 where
   pub room : AllHaveRoom (last_in_rows rows) (map timed chunk.samples)
   pub few : length (timed_of rows) + length chunk.samples < 2 ^ 32
 
--- when the first of samples is decoded, in microseconds, behind an earlier first one
+-- when the first of samples is decoded, in microseconds, after an earlier first one
 abbrev pub first_dts_with : Option ℕ → List Stored → Option ℕ
 first_dts_with None [] = None
 first_dts_with None (s ∷ ss) = Some s.dts_us

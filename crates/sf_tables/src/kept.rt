@@ -1,7 +1,7 @@
 ghost use Rattle.std.specs.Prelude.{◌≡◌, ℕ, ◌+◌, ◌^◌, ◌<◌, ◌≤◌, ◌++◌, length, map, vec_len, vec_capacity};
 ghost use Rattle.std.specs.List.{AllByRecursion};
 ghost use Rattle.sf_tables.specs.inner.Kept.{timed_kept};
-ghost use Rattle.sf_meaning.specs.Layout.{timed};
+ghost use Rattle.sf_meaning.specs.Rows.{timed};
 
 use sf_tick::Stored;
 
@@ -40,7 +40,7 @@ fn kept(sample: &Stored) -> KeptSample
     }
 }
 
-/// Puts what is kept of samples behind the others, where there is room for them.
+/// Puts what is kept of samples after the others, where there is room for them.
 pub(crate) fn keep_samples(list: &mut Vec<KeptSample>, samples: &[Stored])
     requires room { vec_len list.old + length samples.now ≤ vec_capacity list.old }
     requires sizes { AllByRecursion (λ s. length s.bytes < 2 ^ 32) samples.now }

@@ -2,7 +2,7 @@
 //! (ISO/IEC 14496-12, 8.5.1).
 //!
 //! `Tables` keeps what the box says of each sample and each chunk. How long the box is and how long
-//! the track lasts, now and behind one more chunk, is known from totals, without a walk along the
+//! the track lasts, now and after one more chunk, is known from totals, without a walk along the
 //! samples. Adding a chunk takes no memory once there is room for it.
 #![tactic(auto)]
 

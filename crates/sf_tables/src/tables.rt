@@ -106,7 +106,7 @@ impl Tables {
         self.of_samples.duration()
     }
 
-    /// How long the track would last behind one more chunk, in ticks.
+    /// How long the track would last after one more chunk, in ticks.
     pub fn duration_with(&self, chunk: &Chunk) -> u64
         requires { Addable self.now.rows chunk.now }
         ensures { (place : ℕ) → result ≡ duration_in_rows (with_chunk self.now.rows place chunk.now) }
@@ -124,7 +124,7 @@ impl Tables {
         stbl_len(&self.of_samples, &self.of_chunks, entry_len)
     }
 
-    /// How long that box would be behind one more chunk that begins at this place.
+    /// How long that box would be after one more chunk that begins at this place.
     pub fn size_with(&self, entry_len: u64, place: u64, chunk: &Chunk) -> u64
         requires entry { entry_len < 2 ^ 62 }
         requires addable { Addable self.now.rows chunk.now }

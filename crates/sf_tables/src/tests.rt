@@ -1,5 +1,5 @@
 ghost use Rattle.std.specs.Prelude.{◌≡◌, ◌+◌, ◌^◌, ◌<◌, ◌≤◌, map, IsTrue, Option};
-ghost use Rattle.sf_meaning.specs.Layout.{timed};
+ghost use Rattle.sf_meaning.specs.Rows.{timed};
 ghost use Rattle.sf_tables.specs.Rows.{Addable, AllHaveRoom, HasRoom, last_in_rows};
 
 use super::*;

@@ -2,8 +2,8 @@
 
 ghost use Rattle.std.specs.Prelude.{◌≡◌, ℕ, ◌+◌, ◌-◌, ◌%◌, ◌^◌, ◌<◌, ◌≤◌, ◌==◌, List, [], length, map, if◌then◌else◌};
 ghost use Rattle.sf_box.specs.Parts.{tiled};
-ghost use Rattle.sf_meaning.specs.Stbl.{Row, timed_of, places_in_rows, counts_in_rows, stbl_parts, offset_word};
-ghost use Rattle.sf_meaning.specs.Layout.{timed};
+ghost use Rattle.sf_meaning.specs.Stbl.{offset_word};
+ghost use Rattle.sf_meaning.specs.Rows.{timed};
 ghost use Rattle.sf_tables.specs.Rows.{AllHaveRoom, HasRoom};
 ghost use Rattle.sf_tables.specs.inner.Totals.{CountsChunks, CountsSamples, Steady, after_chunk, after_sample, after_samples, last_counted};
 
@@ -140,7 +140,7 @@ impl SampleTotals {
         }
     }
 
-    /// The totals behind one more sample.
+    /// The totals after one more sample.
     fn with_sample(self, sample: &Stored) -> SampleTotals
         requires few { self.count + 1 < 2 ^ 32 }
         requires steady { Steady self }
@@ -166,7 +166,7 @@ impl SampleTotals {
         }
     }
 
-    /// The totals behind more samples.
+    /// The totals after more samples.
     pub fn with_samples(self, samples: &[Stored]) -> SampleTotals
         requires few { self.count + length samples.now < 2 ^ 32 }
         requires steady { Steady self }
@@ -196,7 +196,7 @@ impl ChunkTotals {
         }
     }
 
-    /// The totals behind one more chunk.
+    /// The totals after one more chunk.
     pub fn with_chunk(self, place: u64, count: u32) -> ChunkTotals
         requires few { self.chunks + 1 < 2 ^ 32 }
         requires spreads { self.spreads ≤ self.chunks }

@@ -4,13 +4,13 @@ use Rattle.std.proofs.lemmas.Option.{slice_get_past}
 use Rattle.sf_world.specs.declared.kept.Node.{Node, Node', None', Some', out-Node}
 use Rattle.sf_world.specs.inner.Files.{files_from, files_of}
 
--- the file of a node stands behind those of the links behind it
+-- the file of a node stands after those of the links after it
 pub files_from-out : (n : Node) → files_from n ≡ files_of (out-Node n).next ++ (out-Node n).contents ∷ []
 unfolding out-Node denote.Hole.Carrier.out
 files_from-out (Node' contents None') = refl
 files_from-out (Node' contents (Some' p n)) = refl
 
--- a node has one file more than the links behind it
+-- a node has one file more than the links after it
 pub length-files_from : (n : Node) → length (files_from n) ≡ length (files_of (out-Node n).next) + 1
 length-files_from n = ap length (files_from-out n) ∙ length-append (files_of (out-Node n).next) ((out-Node n).contents ∷ [])
 

@@ -25,7 +25,7 @@ impl Drop for Node {
     }
 }
 
-/// Puts a node's file behind those of a chain.
+/// Puts a node's file after those of a chain.
 pub(crate) fn put(files: &mut Option<Box<Node>>, mut node: Box<Node>)
     ensures { files_of files.new ≡ files_of files.old ++ (out-Node node.value).contents ∷ [] }
 {
@@ -33,7 +33,7 @@ pub(crate) fn put(files: &mut Option<Box<Node>>, mut node: Box<Node>)
     *files = Some(node);
 }
 
-// The node behind so many others, if there is one.
+// The node after so many others, if there is one.
 fn skip(files: &Option<Box<Node>>, count: u32) -> Option<&Node>
     ensures some { IfSome result (λ node. length (files_from node.now) + count ≡ length (files_of files.now)) }
     ensures none { IfNone result (length (files_of files.now) ≤ count) }

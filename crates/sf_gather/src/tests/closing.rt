@@ -70,7 +70,7 @@ fn without_samples_there_is_an_empty_last_chunk(rt: HostRuntime) -> Result<(), F
     Ok(())
 }
 
-/// Whether a sample of one byte is taken into a chunk behind two samples of these sizes.
+/// Whether a sample of one byte is taken into a chunk after two samples of these sizes.
 fn fits_behind(alloc: Global, first: usize, second: usize) -> Result<bool, AllocError>
     requires first_some { 1 ≤ first }
     requires first_size { first ≤ 16777216 }

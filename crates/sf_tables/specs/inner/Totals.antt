@@ -31,7 +31,7 @@ pub record CountsChunks (t : ChunkTotals) (places counts : List ℕ) : Type 0 wh
   pub spreads : t.spreads ≡ length (spread_from 1 0 counts)
   pub near : t.near ≡ all_near places
 
--- the totals behind one more sample
+-- the totals after one more sample
 abbrev pub after_sample : SampleTotals → Timed → SampleTotals
 after_sample t s =
     let delta : ℕ = if t.count == 0 then 0 else s.decode - t.decode in
@@ -50,12 +50,12 @@ after_sample t s =
       size = if t.count == 0 then s.size else if s.size == t.size then s.size else 0;
     }
 
--- the totals behind more samples
+-- the totals after more samples
 abbrev pub after_samples : SampleTotals → List Timed → SampleTotals
 after_samples t [] = t
 after_samples t (s ∷ ss) = after_samples (after_sample t s) ss
 
--- the totals behind one more chunk
+-- the totals after one more chunk
 abbrev pub after_chunk : ChunkTotals → ℕ → ℕ → ChunkTotals
 after_chunk t place count =
     record {

@@ -4,7 +4,7 @@ use Rattle.std.specs.declared.alloc.Global.{Global}
 use Rattle.std.specs.declared.boxed.Box.{Box}
 use Rattle.sf_world.specs.declared.kept.Node.{Node, Node', Held-Node-next, None', Some'}
 
--- the file of a node behind those that were kept before it
+-- the file of a node after those that were kept before it
 abbrev mutual
   pub files_from : Node → List (List ℕ)
   files_from (Node' contents next) = files_behind next ++ contents ∷ []

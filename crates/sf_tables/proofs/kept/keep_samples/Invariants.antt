@@ -1,7 +1,7 @@
 use Rattle.std.proofs.Common.{◌≡◌, ◌+◌, ◌<◌, ◌^◌, ◌++◌, length, map, drop, vec_len, vec_capacity}
 use Rattle.std.specs.List.{AllByRecursion}
 use Rattle.sf_tables.specs.inner.Kept.{timed_kept}
-use Rattle.sf_meaning.specs.Layout.{timed}
+use Rattle.sf_meaning.specs.Rows.{timed}
 use Rattle.sf_tables.proofs.kept.keep_samples.Given as goal
 
 abbrev pub invariant-loop-sample : goal.invariant-loop-sample

@@ -1,5 +1,5 @@
 use Rattle.std.proofs.Common.{◌^◌, ◌<◌, length, sym, ap, subst, arith}
-use Rattle.sf_meaning.specs.Layout.{stbl_box}
+use Rattle.sf_meaning.specs.Stbl.{stbl_box}
 use Rattle.sf_layout.specs.Layout.{stbl_of}
 use Rattle.sf_file.specs.inner.Tracks.{KeptTrack}
 use Rattle.sf_file.proofs.Heads.{stbl_is}

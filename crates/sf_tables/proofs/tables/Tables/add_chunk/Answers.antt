@@ -1,7 +1,6 @@
-use Rattle.std.proofs.Common.{◌≡◌, ◌≤◌, List, ◌++◌, length, map, ap, ◌∙◌, arith}
-use Rattle.std.proofs.Common.{subst}
+use Rattle.std.proofs.Common.{◌≡◌, ◌≤◌, List, ◌++◌, length, map, ap, ◌∙◌, arith, subst}
 use Rattle.sf_meaning.specs.Stbl.{Row, timed_of}
-use Rattle.sf_meaning.specs.Layout.{timed}
+use Rattle.sf_meaning.specs.Rows.{timed}
 use Rattle.sf_tables.specs.Rows.{TrackTables, with_chunk}
 use Rattle.sf_tables.specs.inner.Kept.{rows_kept, timed_kept}
 use Rattle.sf_tick.specs.declared.types.Stored.{Stored}

@@ -1,5 +1,5 @@
 use Rattle.std.proofs.Common.{◌≡◌, ◌+◌, map, drop}
-use Rattle.sf_meaning.specs.Layout.{timed}
+use Rattle.sf_meaning.specs.Rows.{timed}
 use Rattle.sf_tables.specs.Rows.{AllHaveRoom}
 use Rattle.sf_tables.specs.inner.Totals.{Steady, after_samples, last_counted}
 use Rattle.sf_tables.proofs.totals.SampleTotals.with_samples.Given as goal
