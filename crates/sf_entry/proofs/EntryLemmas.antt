@@ -1,16 +1,18 @@
 -- Boxes inside an entry, and entries that are read one after the other.
-use Rattle.std.proofs.Common.{◌≡◌, ℕ, ltb, true, false, List, [], ◌∷◌, ◌++◌, length, drop, Some, None, Result, Ok, Err, refl, sym, ap, ◌∙◌, append_assoc, arith, inl, inr}
-use Rattle.std.proofs.lemmas.List.{drop_all, append-nil}
+use Rattle.std.proofs.Common.{◌≡◌, ℕ, suc, ◌^◌, ◌<◌, ◌≤◌, ltb, true, false, List, [], ◌∷◌, ◌++◌, length, drop, Some, None, Result, Ok, Err, IfOk, refl, sym, ap, ◌∙◌, append_assoc, arith, inl, inr}
+use Rattle.std.proofs.lemmas.List.{drop_all, append-nil, length-map}
 use Rattle.std.proofs.lemmas.Bool.{cases_lt, lt-ltb, le-ltb}
 use Rattle.sf_box.specs.Boxes.{Piece, leading}
 use Rattle.sf_box.specs.Parts.{child_piece}
+use Rattle.sf_box.specs.Reading.{piece_at, pieces_at}
+use Rattle.sf_box.specs.declared.types.BoxHead.{BoxHead}
 use Rattle.sf_box.proofs.BoxLaws.{leading_none}
 use Rattle.sf_entry.specs.declared.types.EntryAt.{EntryAt}
 use Rattle.sf_entry.specs.declared.types.EntryFault.{EntryFault}
 use Rattle.sf_entry.specs.declared.types.EntryFault.TheVariants.{Short, NoAvcC, BadAvcC, NoMemory}
 use Rattle.sf_entry.specs.Steps.{◌>>=◌}
 use Rattle.sf_entry.specs.Esds.{past}
-use Rattle.sf_entry.specs.Stsd.{body_of, child_in, entry_at, entries_in, Stops}
+use Rattle.sf_entry.specs.Stsd.{body_of, child_in, entry_at, entries_in, Answers, Stops}
 
 -- there are no bytes after too many
 past_none : (count : ℕ) (bytes : List ℕ) → None ≡ past count bytes → drop count bytes ≡ []
@@ -79,6 +81,26 @@ pub entries_stop : (front : List EntryAt) (fault : EntryFault) (p : Piece) (ps :
 unfolding entries_in
 entries_stop front fault p ps all stops so_far =
     sym so_far ∙ ap (λ (said : Result EntryAt EntryFault). with_entries front (said >>= (λ e. entries_in ps >>= (λ entries. Ok (e ∷ entries))))) stops
+
+one_more : (n : ℕ) (es : List EntryAt) (r : Result EntryAt EntryFault) (q : Result (List EntryAt) EntryFault) → ((xs : List EntryAt) → q ≡ Ok xs → length xs ≡ n)
+    → (r >>= (λ x. q >>= (λ xs. Ok (x ∷ xs)))) ≡ Ok es → length es ≡ suc n
+one_more n es (Ok x) (Ok xs) many e = let all : x ∷ xs ≡ es = cc e in ap length (sym all) ∙ ap suc (many xs refl)
+one_more n es (Ok x) (Err fault) many e = absurd (cc e)
+one_more n es (Err fault) q many e = absurd (cc e)
+
+-- as many entries as boxes
+as_many : (ps : List Piece) (es : List EntryAt) → entries_in ps ≡ Ok es → length es ≡ length ps
+unfolding entries_in
+as_many [] es e = let none : [] ≡ es = cc e in ap length (sym none)
+as_many (p ∷ ps) es e = one_more (length ps) es (entry_at p) (entries_in ps) (as_many ps) e
+
+-- so the entries of so many heads are as many
+pub few_entries : (base count : ℕ) (bytes : List ℕ) (heads : List BoxHead) (r : Result (List EntryAt) EntryFault) → Answers r (entries_in (pieces_at base bytes heads))
+    → length heads ≤ count → count < 2 ^ 32 → IfOk r (λ es. length es < 2 ^ 32)
+few_entries base count bytes heads (Ok es) e le lt =
+    let boxes : length es ≡ length (pieces_at base bytes heads) = as_many (pieces_at base bytes heads) es e in
+    omega (arith, boxes, length-map heads (piece_at base bytes), le, lt)
+few_entries base count bytes heads (Err fault) e le lt = tt
 
 -- all entries were read
 pub entries_end : (front : List EntryAt) (all : Result (List EntryAt) EntryFault) → with_entries front (entries_in []) ≡ all → all ≡ Ok front

@@ -4,3 +4,4 @@ pub mod EsdsBack
 pub mod EntriesBack
 pub mod ConfigLength
 pub mod SetupsBack
+pub mod Widths

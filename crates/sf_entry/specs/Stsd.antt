@@ -1,5 +1,5 @@
 -- The entries of a sample description box (ISO/IEC 14496-12, 8.5.2), as they are read.
-use Rattle.std.specs.Prelude.{◌≡◌, ℕ, ◌+◌, nat_le, if◌then◌else◌, List, [], ◌∷◌, ◌++◌, length, take, drop, codes, Option, Some, None, option_and_then, Result, Ok, Err, ⊤}
+use Rattle.std.specs.Prelude.{◌≡◌, ℕ, ◌+◌, ◌≤◌, nat_le, if◌then◌else◌, List, [], ◌∷◌, ◌++◌, length, take, drop, codes, Option, Some, None, option_and_then, Result, Ok, Err, ⊤}
 use Rattle.std.specs.Str.{bytes_eq}
 use Rattle.sf_box.specs.declared.types.FourCc.{FourCc}
 use Rattle.sf_box.specs.Boxes.{Piece, be32, word16, word32, leading}
@@ -72,6 +72,17 @@ entries_of base body = do
   check (nat_le 8 (length body)) (Short base)
   check (nat_le (word32 (drop 4 body)) (length (boxes_after base body))) (Short base)
   entries_in (take (word32 (drop 4 body)) (boxes_after base body))
+
+-- The length of a unit has one to four bytes.
+pub record IsWidth (width : ℕ) : Type 0 where
+  pub least : 1 ≤ width
+  pub most : width ≤ 4
+
+-- it has in an entry of video (14496-15, 5.3.3.1)
+abbrev pub HasWidth : Entry → Type 0
+HasWidth (Avc config) = IsWidth config.width
+HasWidth (Aac config) = Unit {0}
+HasWidth (Other kind) = Unit {0}
 
 -- the body of a box with one entry: its version and flags, the count, the entry
 unfoldable pub stsd_of : List ℕ → List ℕ

@@ -16,7 +16,7 @@ mod track_setup;
 mod types;
 
 pub use asc::{Asc, AscFault, read_asc};
-pub use laws::entries_are_read_back;
+pub use laws::{entries_are_read_back, lengths_have_a_width};
 pub use stsd::read_stsd;
 pub use track_setup::{SetupFault, TrackSetup, make_entry};
 pub use types::{Entries, Entry, EntryAt, EntryFault};

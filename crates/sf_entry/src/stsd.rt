@@ -133,7 +133,8 @@ fn read_entries(
 #[tactic(auto, unfolding(crate::specs::Stsd::entries_of))]
 pub fn read_stsd(alloc: Global, body: &[u8], base: u64) -> Result<Entries, EntryFault>
     requires { base + length body.now < 2 ^ 64 }
-    ensures { Answers result (entries_of base body.now) }
+    ensures entries { Answers result (entries_of base body.now) }
+    ensures few { IfOk result (λ entries. length entries < 2 ^ 32) }
 {
     let short = EntryFault::Short { at: base };
     if body.len() < 8 {

@@ -6,9 +6,9 @@ use Rattle.sf_box.specs.Parts.{Part, tiled}
 use Rattle.sf_box.proofs.BoxLaws.{length-be16, length-be32, length-be64, length-box_of, length-opened, length-tiled-cons, length-tiled-nil, tiled-append}
 use Rattle.sf_tick.specs.declared.types.Kind.{Kind}
 use Rattle.sf_tick.specs.declared.types.Kind.TheVariants.{Avc, Aac}
-use Rattle.sf_meaning.specs.Layout.{is_long, mdhd_body, dref_body, in_dinf, in_udta}
+use Rattle.sf_meaning.specs.WrittenHeaders.{is_long, dref_body, in_dinf, in_udta}
+use Rattle.sf_layout.specs.Headers.{mdhd_body, zeros, matrix, duration_bytes, header_times, for_kind, end_us, length_us, longest, mvhd_body, volume, dimensions, tkhd_body, elst_body, in_edts, edts_parts, hdlr_body, media_header}
 use Rattle.sf_layout.specs.declared.heads.TrackHead.{TrackHead}
-use Rattle.sf_layout.specs.Headers.{zeros, matrix, duration_bytes, header_times, for_kind, end_us, length_us, longest, mvhd_body, volume, dimensions, tkhd_body, elst_body, in_edts, edts_parts, hdlr_body, media_header}
 use Rattle.sf_layout.specs.MovieBox.{minf_body, mdia_body, trak_body, traks_from, in_moov, moov_of}
 use Rattle.sf_moov.specs.Heads.{HaveLengths}
 use Rattle.sf_moov.specs.Lengths.{extra, traks_len}

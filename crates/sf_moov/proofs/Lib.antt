@@ -1,1 +1,2 @@
 pub mod BoxLengths
+mod TrakWalk

@@ -1,6 +1,6 @@
 -- How long a movie box is, from what is known of its tracks.
 use Rattle.std.specs.Prelude.{ℕ, ◌+◌, ◌==◌, if◌then◌else◌, List, [], ◌∷◌}
-use Rattle.sf_meaning.specs.Layout.{is_long}
+use Rattle.sf_meaning.specs.WrittenHeaders.{is_long}
 use Rattle.sf_layout.specs.Headers.{end_us, for_kind, longest}
 use Rattle.sf_layout.specs.declared.heads.TrackHead.{TrackHead}
 

@@ -4,8 +4,8 @@
 ghost use Rattle.std.specs.Prelude.{◌≡◌, ◌+◌, ◌*◌, ◌/◌, ◌^◌, ◌<◌, ◌≤◌, [], ◌∷◌, ◌++◌, codes, length, take, OnOk, if◌then◌else◌};
 ghost use Rattle.sf_box.specs.Boxes.{be32, box_of};
 ghost use Rattle.sf_box.specs.Parts.{tiled};
-ghost use Rattle.sf_meaning.specs.Layout.{matrix, is_long, duration_bytes, header_times, mdhd_body, microseconds};
-ghost use Rattle.sf_layout.specs.Headers.{zeros, end_us, length_us, mvhd_body, tkhd_body, volume, dimensions, elst_body, in_edts, edts_parts};
+ghost use Rattle.sf_layout.specs.Headers.{matrix, mdhd_body, zeros, end_us, length_us, mvhd_body, tkhd_body, volume, dimensions, elst_body, in_edts};
+ghost use Rattle.sf_meaning.specs.WrittenHeaders.{is_long, duration_bytes, header_times};
 ghost use Rattle.sf_moov.specs.Heads.{HasEnd};
 
 use sf_box::{FourCc, begin_box, end_box, put_bytes, put_u16, put_u32, put_u64};

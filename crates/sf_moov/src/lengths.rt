@@ -2,7 +2,7 @@
 
 ghost use Rattle.std.specs.Prelude.{◌≡◌, ℕ, ◌+◌, ◌*◌, ◌^◌, ◌<◌, ◌≤◌, List, [], ◌∷◌, length, max, sum_by, if◌then◌else◌};
 ghost use Rattle.std.specs.List.{AllByRecursion};
-ghost use Rattle.sf_meaning.specs.Layout.{is_long};
+ghost use Rattle.sf_meaning.specs.WrittenHeaders.{is_long};
 ghost use Rattle.sf_layout.specs.Headers.{end_us, longest};
 ghost use Rattle.sf_layout.specs.MovieBox.{moov_of};
 ghost use Rattle.sf_moov.specs.Heads.{HasEnd, AreHeads, HaveLengths};

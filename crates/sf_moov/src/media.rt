@@ -3,7 +3,7 @@
 ghost use Rattle.std.specs.Prelude.{◌≡◌, ◌+◌, ◌^◌, ◌<◌, [], ◌∷◌, ◌++◌, codes, length, take, OnOk, if◌then◌else◌};
 ghost use Rattle.sf_box.specs.Boxes.{box_of};
 ghost use Rattle.sf_box.specs.Parts.{tiled};
-ghost use Rattle.sf_meaning.specs.Layout.{is_long, in_dinf};
+ghost use Rattle.sf_meaning.specs.WrittenHeaders.{is_long, in_dinf};
 ghost use Rattle.sf_layout.specs.Headers.{for_kind, hdlr_body, media_header};
 ghost use Rattle.sf_layout.specs.MovieBox.{minf_body, mdia_body};
 

@@ -4,9 +4,9 @@ ghost use Rattle.std.specs.Prelude.{◌≡◌, ℕ, ◌+◌, ◌^◌, ◌<◌, �
 ghost use Rattle.std.specs.List.{AllByRecursion};
 ghost use Rattle.sf_box.specs.Boxes.{box_of};
 ghost use Rattle.sf_box.specs.Parts.{tiled};
-ghost use Rattle.sf_meaning.specs.Layout.{in_udta};
+ghost use Rattle.sf_meaning.specs.WrittenHeaders.{in_udta};
 ghost use Rattle.sf_layout.specs.Headers.{edts_parts};
-ghost use Rattle.sf_layout.specs.MovieBox.{trak_body, traks_from, in_moov, moov_of};
+ghost use Rattle.sf_layout.specs.MovieBox.{trak_body, traks_from, moov_of};
 ghost use Rattle.sf_moov.specs.Heads.{HasEnd, AreHeads, HaveLengths};
 
 use crate::headers::{put_edts, put_mvhd, put_tkhd};

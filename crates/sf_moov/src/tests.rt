@@ -11,6 +11,7 @@ use std::test::Fail;
 
 mod one_track;
 mod three_tracks;
+mod trak_heads;
 
 /// The head of a track of sound that begins with the file.
 const SOUND: TrackHead = TrackHead {
