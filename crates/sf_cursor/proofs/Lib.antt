@@ -4,3 +4,5 @@ pub mod RunValues
 pub mod StartLemmas
 pub mod SyncNumbers
 pub mod TickSums
+pub mod SizeSums
+pub mod HeldSamples

@@ -1,5 +1,5 @@
 -- The sample that the tables of a cursor list under a number.
-use Rattle.std.proofs.Common.{◌≡◌, ℕ, zero, suc, ℤ, pos, ◌+ℤ◌, ◌+◌, ◌-◌, ◌^◌, ◌<◌, ◌≤◌, nat_le, Bool, true, false, List, [], ◌∷◌, length, take, drop, map, sum, get_or, Some, IfSome, Result, Ok, refl, sym, ap, ◌∙◌, subst, arith}
+use Rattle.std.proofs.Common.{◌≡◌, ℕ, zero, suc, ℤ, pos, ◌+ℤ◌, ◌+◌, ◌-◌, ◌^◌, ◌<◌, ◌≤◌, nat_le, Bool, true, false, List, [], ◌∷◌, length, take, drop, map, sum, get_or, Some, Result, Ok, refl, sym, ap, ◌∙◌, subst, arith}
 use Rattle.std.specs.List.{slice_get}
 use Rattle.std.proofs.lemmas.Bool.{leb-true}
 use Rattle.std.proofs.lemmas.List.{get_or-take}
@@ -15,6 +15,8 @@ use Rattle.sf_meaning.specs.declared.movie.PlainSample.{PlainSample}
 use Rattle.sf_meaning.specs.declared.track_tables.Tables.{Tables as HeldTables}
 use Rattle.sf_cursor.specs.Cursor.{HasPlace}
 use Rattle.sf_cursor.specs.inner.Sound.{Sound, counts_as, counts_of_runs}
+use Rattle.sf_cursor.specs.inner.Held.{AreInChunks, IsThere}
+use Rattle.sf_cursor.proofs.ChunkSums.{chunk_found, count_at, length-counts}
 use Rattle.sf_cursor.proofs.TickSums.{length_expand}
 
 -- ---- what the tables say
@@ -40,7 +42,7 @@ timed scale entries n t e =
     let b = checked (nat_le n (length t.deltas)) _ _ tt e in
     leb-true n (length t.deltas) b.0
 
-all_listed : (scale entries : ℕ) (t : Tables) → samples_said scale entries (length t.sizes) t ≡ Ok tt → samples_in scale entries t ≡ Ok (listed t)
+pub all_listed : (scale entries : ℕ) (t : Tables) → samples_said scale entries (length t.sizes) t ≡ Ok tt → samples_in scale entries t ≡ Ok (listed t)
 unfolding samples_in
 all_listed scale entries t e = rw e refl
 
@@ -206,31 +208,51 @@ first_left [] (suc i) x ys e = absurd (cc e)
 first_left (z ∷ xs) zero x ys e = sym (cc e)
 first_left (z ∷ xs) (suc i) x ys e = first_left xs i x ys e
 
--- a sample that is listed ends where the tables say
-pub ends_said : Law → (t : HeldTables) (chunks : List ChunkAt) → Sound t chunks → (i c earlier : ℕ) (d : ChunkAt)
-    → Kept t chunks i c earlier d → i < length (sizes_view t.sizes) → (r : Bool) (bytes : ℕ)
-    → r ≡ nat_le ((get_or chunks c d).place + sum (take earlier (drop (i - earlier) (sizes_view t.sizes))) + get_or (sizes_view t.sizes) i 0) bytes
-    → (s : PlainSample) × (slice_get (listed (tables_view t)) i ≡ Some s) × (r ≡ nat_le (s.place + s.size) bytes)
-ends_said law t chunks sound i c earlier d k lt r bytes e =
+-- a sample that is listed has the place and the size that the tables say
+listed_there : Law → (t : HeldTables) (chunks : List ChunkAt) → Sound t chunks → (i c earlier : ℕ) (d : ChunkAt)
+    → Kept t chunks i c earlier d → i < length (sizes_view t.sizes)
+    → IsThere (listed (tables_view t)) i ((get_or chunks c d).place + sum (take earlier (drop (i - earlier) (sizes_view t.sizes)))) (get_or (sizes_view t.sizes) i 0)
+listed_there law t chunks sound i c earlier d k lt =
     let l : Listed (tables_view t) i = is_listed law sound.scale sound.entries (tables_view t) sound.said i lt in
     let sizes : List ℕ = sizes_view t.sizes in
     let same : l.c ≡ c = one_chunk (counts_of (tables_view t)) i l.c c l.is.chunk k.chunk in
     let place : l.s.place ≡ get_or t.places c 0 + sum (take (i - before (tables_view t) c) (drop (before (tables_view t) c) sizes)) =
     subst (λ (d : ℕ). l.s.place ≡ get_or t.places d 0 + sum (take (i - before (tables_view t) d) (drop (before (tables_view t) d) sizes))) same l.is.place in
-    let whole : l.s.place ≡ (get_or chunks c d).place + sum (take earlier (drop (i - earlier) sizes)) =
-    place
-    ∙ ap (λ (p : ℕ). p + sum (take (i - before (tables_view t) c) (drop (before (tables_view t) c) sizes))) k.place
-    ∙ ap (λ (n : ℕ). (get_or chunks c d).place + sum (take n (drop (before (tables_view t) c) sizes))) k.within
-    ∙ ap (λ (n : ℕ). (get_or chunks c d).place + sum (take earlier (drop n sizes))) k.since in
-    (l.s, l.at, rw (whole, l.is.size) e)
+    record {
+      s = l.s;
+      at = l.at;
+      place = place
+          ∙ ap (λ (p : ℕ). p + sum (take (i - before (tables_view t) c) (drop (before (tables_view t) c) sizes))) k.place
+          ∙ ap (λ (n : ℕ). (get_or chunks c d).place + sum (take n (drop (before (tables_view t) c) sizes))) k.within
+          ∙ ap (λ (n : ℕ). (get_or chunks c d).place + sum (take earlier (drop n sizes))) k.since;
+      size = l.is.size;
+    }
 
--- a sample that ends within fewer than 2 ^ 64 bytes has a place
-pub has_place : (t : Tables) (i bytes : ℕ) (r : Bool) → bytes < 2 ^ 64 → (s : PlainSample) × (slice_get (listed t) i ≡ Some s) × (r ≡ nat_le (s.place + s.size) bytes) → r ≡ true → HasPlace t i
-has_place t i bytes r lt l e =
-    let le : l.0.place + l.0.size ≤ bytes = leb-true (l.0.place + l.0.size) bytes (sym l.2 ∙ e) in
-    let low : l.0.place < 2 ^ 64 = omega (arith, le, lt) in
-    rw l.1 low
+-- the samples that are listed follow one another in the chunks
+pub in_chunks : Law → (t : HeldTables) (chunks : List ChunkAt) → Sound t chunks → AreInChunks chunks (sizes_view t.sizes) (listed (tables_view t))
+in_chunks law t chunks sound =
+    λ c d there j less.
+    let counts : List ℕ = counts_as chunks in
+    let sizes : List ℕ = sizes_view t.sizes in
+    let s : ℕ = sum (take c counts) in
+    let per : get_or counts c 0 ≡ (get_or chunks c d).per = count_at chunks c d there in
+    let is : IsChunkOf counts (s + j) c = chunk_found counts (s + j) c j (omega (arith, there, length-counts chunks)) refl (omega (arith, less, per)) in
+    let k = kept t chunks sound (s + j) c j d is there refl in
+    let h = listed_there law t chunks sound (s + j) c j d k (omega (arith, less)) in
+    let since : s + j - j ≡ s = omega arith in
+    record {
+      s = h.s;
+      at = h.at;
+      place = h.place ∙ ap (λ (n : ℕ). (get_or chunks c d).place + sum (take j (drop n sizes))) since;
+      size = h.size;
+    }
 
-pub is_within : (t : Tables) (i bytes : ℕ) (r : Bool) → (s : PlainSample) × (slice_get (listed t) i ≡ Some s) × (r ≡ nat_le (s.place + s.size) bytes)
-    → IfSome (slice_get (listed t) i) (λ s. r ≡ nat_le (s.place + s.size) bytes)
-is_within t i bytes r l = rw l.1 (l.2)
+-- the chunks hold all samples
+pub all_reached : (t : HeldTables) (chunks : List ChunkAt) → Sound t chunks → length (sizes_view t.sizes) ≤ sum (counts_as chunks)
+all_reached t chunks sound =
+    let counts : sum (counts_as chunks) ≡ sum (counts_of (tables_view t)) = ap (λ (hs : List InChunk). sum (map (λ h. h.per) hs)) sound.held in
+    omega (arith, counts, enough sound.scale sound.entries (length (sizes_view t.sizes)) (tables_view t) sound.said)
+
+-- there are as many as sizes
+pub all_there : Law → (t : HeldTables) (chunks : List ChunkAt) → Sound t chunks → length (listed (tables_view t)) ≡ length (sizes_view t.sizes)
+all_there law t chunks sound = law.all sound.scale sound.entries (tables_view t) (listed (tables_view t)) (all_listed sound.scale sound.entries (tables_view t) sound.said)

@@ -1,18 +1,21 @@
 //! The cursor over the samples of a track.
 
-ghost use Rattle.std.specs.Prelude.{◌≡◌, ◌+◌, ◌^◌, ◌<◌, nat_le, true, length, slice_get, Some, IfSome};
+ghost use Rattle.std.specs.Prelude.{◌≡◌, ℕ, OnOk, pos, neg_ℤ, ◌≤ℤ◌, ◌<ℤ◌, ◌+◌, ◌^◌, ◌<◌, length, slice_get, Some};
 ghost use Rattle.sf_meaning.specs.Answers.{Gives};
 ghost use Rattle.sf_meaning.specs.TrackSamples.{listed};
+ghost use Rattle.sf_meaning.specs.Tracks.{held_in};
 ghost use Rattle.sf_cursor.specs.Cursor.{tables_in, HasPlace};
 
 use crate::boxes::table_boxes;
-use crate::look_up::{chunk_of, compose_at, ends_within, is_sync, offset_at, place_at};
+use crate::held::chunks_held;
+use crate::look_up::{chunk_of, compose_at, is_sync, offset_at, place_at};
 use crate::starts::{chunk_starts, run_starts};
+use crate::sums::block_sums;
 use crate::ticks::{decode_at, run_ticks};
 use sf_list::Items;
 use sf_meaning::{
-    ChunkAt, PlainSample, TableFault, Tables, chunks_of, count_of, samples_one_by_one, say_samples,
-    size_at, tables_told,
+    ChunkAt, MovieFault, PlainSample, TableFault, Tables, chunks_of, count_of, samples_one_by_one,
+    say_samples, size_at, tables_told,
 };
 use std::alloc::Global;
 use std::marker::Model;
@@ -30,6 +33,8 @@ pub struct Cursor {
     offset_starts: Items<u32>,
     /// How many samples come before each chunk.
     chunk_starts: Items<u32>,
+    /// How many bytes the samples before every sixteenth one take.
+    sums: Items<u64>,
 }
 
 impl Model for Cursor {
@@ -41,7 +46,7 @@ impl Model for Cursor {
 
     ghost view = { λ c. tables_view c.tables };
 
-    ghost invariant = { λ c. Indexed c.tables c.chunks c.time_starts c.ticks c.offset_starts c.chunk_starts };
+    ghost invariant = { λ c. Indexed c.tables c.chunks c.time_starts c.ticks c.offset_starts c.chunk_starts c.sums };
 }
 
 impl Cursor {
@@ -68,6 +73,7 @@ impl Cursor {
         let ticks = run_ticks(alloc, tables.deltas.as_slice())?;
         let offset_starts = run_starts(alloc, tables.offsets.as_slice())?;
         let chunk_starts = chunk_starts(alloc, &chunks)?;
+        let sums = block_sums(alloc, &tables.sizes)?;
         Ok(Cursor {
             tables,
             chunks: Items::from_vec(chunks),
@@ -75,35 +81,36 @@ impl Cursor {
             ticks,
             offset_starts,
             chunk_starts,
+            sums,
         })
     }
 
     /// The number of samples.
     pub fn count(&self) -> u64
-        ensures { result ≡ length self.now.sizes }
+        ensures sizes { result ≡ length self.now.sizes }
+        ensures samples { result ≡ length (listed self.now) }
     {
+        samples_one_by_one();
         u64::from(count_of(&self.tables.sizes))
     }
 
-    /// Whether a sample, by its number from 0, lies in a file of so many bytes.
-    pub fn lies_within(&self, i: u64, bytes: u64) -> bool
-        requires { i < length self.now.sizes }
-        ensures within { IfSome (slice_get (listed self.now) i) (λ s. result ≡ nat_le (s.place + s.size) bytes) }
-        ensures place { result ≡ true → HasPlace self.now i }
+    /// A file of so many bytes holds each sample, and none is too long, of a track of this number. It errs
+    /// with the first sample that isn't so, and walks along the samples once.
+    pub fn held(&self, track: u32, bytes: u64) -> Result<(), MovieFault>
+        ensures held { result ≡ held_in bytes track 0 (listed self.now) }
+        ensures places { OnOk result ((i : ℕ) → HasPlace self.now i) }
     {
         samples_one_by_one();
-        let tables = &self.tables;
-        let chunks = self.chunks.as_slice();
-        let i = i as u32;
-        let (c, earlier) = chunk_of(chunks, self.chunk_starts.as_slice(), i);
-        ends_within(chunks[c].place, &tables.sizes, i, earlier, bytes)
+        chunks_held(self.chunks.as_slice(), &self.tables.sizes, track, bytes)
     }
 
     /// A sample by its number, from 0. It takes no memory.
     pub fn sample(&self, i: u64) -> PlainSample
         requires there { i < length self.now.sizes }
         requires place { HasPlace self.now i }
-        ensures { slice_get (listed self.now) i ≡ Some result }
+        ensures listed { slice_get (listed self.now) i ≡ Some result }
+        ensures least { neg_ℤ (pos (2 ^ 31)) ≤ℤ result.compose }
+        ensures most { result.compose <ℤ pos (result.decode + 2 ^ 32) }
     {
         samples_one_by_one();
         let tables = &self.tables;
@@ -126,7 +133,13 @@ impl Cursor {
             decode,
             compose: compose_at(decode, offset),
             sync: is_sync(&tables.sync, i + 1),
-            place: place_at(chunks[c].place, &tables.sizes, i - earlier, earlier),
+            place: place_at(
+                chunks[c].place,
+                &tables.sizes,
+                self.sums.as_slice(),
+                i - earlier,
+                earlier,
+            ),
             size: size_at(&tables.sizes, i),
             description: chunks[c].description,
         }

@@ -9,12 +9,14 @@
 
 mod boxes;
 mod cursor;
+mod held;
 mod look_up;
 mod starts;
+mod sums;
 mod ticks;
 
 pub use cursor::Cursor;
-pub use sf_meaning::{PlainSample, TableFault};
+pub use sf_meaning::{MovieFault, PlainSample, TableFault};
 
 #[cfg(test)]
 mod tests;

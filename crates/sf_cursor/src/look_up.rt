@@ -1,15 +1,16 @@
 //! What the tables of a track say of one sample.
 
-ghost use Rattle.std.specs.Prelude.{◌≡◌, pos, neg_ℤ, ◌+ℤ◌, ◌≤ℤ◌, ◌<ℤ◌, ◌+◌, ◌-◌, ◌*◌, ◌^◌, ◌<◌, ◌≤◌, nat_le, length, take, drop, map, sum, get_or, slice_get};
+ghost use Rattle.std.specs.Prelude.{◌≡◌, pos, neg_ℤ, ◌+ℤ◌, ◌≤ℤ◌, ◌<ℤ◌, ◌+◌, ◌-◌, ◌*◌, ◌^◌, ◌<◌, ◌≤◌, length, take, drop, map, sum, get_or, slice_get};
 ghost use Rattle.sf_meaning.specs.ReadTables.{time_runs, sizes_view};
 ghost use Rattle.sf_meaning.specs.inner.Entries.{Rises};
 ghost use Rattle.sf_meaning.specs.SampleAt.{IsChunkOf};
 ghost use Rattle.sf_meaning.specs.Tables.{expand, offset_in, is_sync};
-ghost use Rattle.sf_cursor.specs.inner.Sound.{AreStarts, counts_as, counts_of_runs};
+ghost use Rattle.sf_cursor.specs.inner.Sound.{AreStarts, HaveSums, counts_as, counts_of_runs};
 
 use crate::starts::last_begun;
+use crate::sums::bytes_of;
 use sf_list::Items;
-use sf_meaning::{ChunkAt, Sizes, TimeRun, offset_in, size_at};
+use sf_meaning::{ChunkAt, Sizes, TimeRun, offset_in};
 
 /// The value that runs give a sample, if they reach it. Samples count from 0.
 pub(crate) fn value_at(runs: &[TimeRun], starts: &[u32], i: u32) -> Option<u32>
@@ -77,51 +78,13 @@ pub(crate) fn chunk_of(chunks: &[ChunkAt], starts: &[u32], i: u32) -> (usize, u3
     (c, i - starts[c])
 }
 
-// The sum of sizes.
-fn sum_of(sizes: &[u32]) -> u64
-    requires { length sizes.now ≤ 2 ^ 32 }
-    ensures exact { result ≡ sum sizes.now }
-    ensures bound { result ≤ length sizes.now * 2 ^ 32 }
-{
-    let mut total = 0u64;
-    for size in sizes {
-        total += u64::from(*size);
-    }
-    total
-}
-
-// How many bytes so many samples have, from one on.
-fn bytes_of(sizes: &Sizes, from: u32, count: u32) -> u64
-    requires within { from + count ≤ length (sizes_view sizes.now) }
-    requires few { length (sizes_view sizes.now) ≤ 16777216 }
-    ensures { result ≡ sum (take count (drop from (sizes_view sizes.now))) }
-{
-    match sizes {
-        Sizes::Same { size, .. } => u64::from(count) * u64::from(*size),
-        Sizes::Each(sizes) => {
-            sum_of(&sizes.as_slice()[from as usize..from as usize + count as usize])
-        }
-    }
-}
-
 /// Where a sample begins in a chunk that begins at a place, after so many samples of the chunk, from one on.
-pub(crate) fn place_at(chunk: u64, sizes: &Sizes, from: u32, count: u32) -> u64
+pub(crate) fn place_at(chunk: u64, sizes: &Sizes, sums: &[u64], from: u32, count: u32) -> u64
     requires within { from + count ≤ length (sizes_view sizes.now) }
     requires few { length (sizes_view sizes.now) ≤ 16777216 }
+    requires sums { HaveSums sizes.now sums.now }
     requires fits { chunk + sum (take count (drop from (sizes_view sizes.now))) < 2 ^ 64 }
     ensures { result ≡ chunk + sum (take count (drop from (sizes_view sizes.now))) }
 {
-    chunk + bytes_of(sizes, from, count)
-}
-
-/// Whether a sample ends within so many bytes, in a chunk that begins at a place, after so many samples of
-/// the chunk.
-pub(crate) fn ends_within(chunk: u64, sizes: &Sizes, i: u32, earlier: u32, bytes: u64) -> bool
-    requires there { i < length (sizes_view sizes.now) }
-    requires earlier { earlier ≤ i }
-    requires few { length (sizes_view sizes.now) ≤ 16777216 }
-    ensures { result ≡ nat_le (chunk + sum (take earlier (drop (i - earlier) (sizes_view sizes.now))) + get_or (sizes_view sizes.now) i 0) bytes }
-{
-    let place = u128::from(chunk) + u128::from(bytes_of(sizes, i - earlier, earlier));
-    place + u128::from(size_at(sizes, i)) <= u128::from(bytes)
+    chunk + bytes_of(sizes, sums, from, count)
 }

@@ -2,8 +2,9 @@
 
 use super::*;
 use sf_box::{FourCc, put_box};
-use sf_list::{Bytes, Items};
+use sf_list::Bytes;
 use std::alloc::{AllocError, Global};
+use std::test::Fail;
 
 mod faults;
 mod samples;
@@ -62,15 +63,28 @@ fn read(
     Ok(Cursor::read(alloc, stbl.as_slice(), 1000, 48000, 2))
 }
 
-/// The samples of a cursor, in order, as far as they lie in a file of so many bytes.
-fn all(alloc: Global, cursor: &Cursor, bytes: u64) -> Result<Items<PlainSample>, AllocError> {
-    let mut samples = Items::new(alloc);
-    for i in 0..cursor.count() {
-        if cursor.lies_within(i, bytes) {
-            samples.push(cursor.sample(i))?;
+/// A cursor over such tables.
+fn cursor_of(rt: HostRuntime, tables: &[(FourCc, &[u8], &[u8])]) -> Result<Cursor, Fail> {
+    Ok(read(rt.alloc(), tables)?.ok().ok_or("refused")?)
+}
+
+/// Whether a file of so many bytes holds a cursor's samples, and those of these numbers are these.
+fn finds(cursor: &Cursor, bytes: u64, wanted: &[(u64, PlainSample)]) -> bool {
+    match cursor.held(7, bytes) {
+        Ok(()) => {
+            let mut same = true;
+            for (i, sample) in wanted {
+                same = same && *i < cursor.count() && cursor.sample(*i) == *sample;
+            }
+            same
         }
+        Err(_) => false,
     }
-    Ok(samples)
+}
+
+/// That a file doesn't hold a sample of track 7.
+fn outside(sample: u64) -> Result<(), MovieFault> {
+    Err(MovieFault::SampleOutside { track: 7, sample })
 }
 
 /// A sample, with its decode tick, composition tick, place and size, that is sync and has the first entry.

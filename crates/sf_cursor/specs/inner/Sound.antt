@@ -1,5 +1,5 @@
 -- What holds of the tables and the chunks that a cursor keeps.
-use Rattle.std.specs.Prelude.{◌≡◌, ℕ, ◌*◌, ◌^◌, ◌<◌, ◌≤◌, min, List, length, take, map, sum, get_or, Ok}
+use Rattle.std.specs.Prelude.{◌≡◌, ℕ, ◌+◌, ◌*◌, ◌/◌, ◌^◌, ◌<◌, ◌≤◌, min, List, length, take, map, sum, get_or, Ok}
 use Rattle.sf_meaning.specs.inner.Entries.{held_as_listed, places_as}
 use Rattle.sf_meaning.specs.inner.TrackTables.{IsInOrder, tables_view}
 use Rattle.sf_meaning.specs.ReadTables.{sizes_view, time_runs}
@@ -7,6 +7,8 @@ use Rattle.sf_meaning.specs.Tables.{expand}
 use Rattle.sf_meaning.specs.TrackSamples.{chunks_of, samples_said}
 use Rattle.sf_meaning.specs.declared.entries.ChunkAt.{ChunkAt}
 use Rattle.sf_meaning.specs.declared.entries.TimeRun.{TimeRun}
+use Rattle.sf_meaning.specs.declared.sizes.Sizes.{Sizes}
+use Rattle.sf_meaning.specs.declared.sizes.Sizes.TheVariants.{Same, Each}
 use Rattle.sf_meaning.specs.declared.track_tables.Tables.{Tables as HeldTables}
 
 -- how many samples the chunks have
@@ -37,11 +39,23 @@ pub record AreTicks (runs : List TimeRun) (ticks : List ℕ) : Type 0 where
   pub at : (k : ℕ) → k < length ticks → get_or ticks k 0 ≡ sum (take (min (sum (take k (counts_of_runs runs))) 16777216) (expand (time_runs runs)))
   pub bound : (k : ℕ) → k < length ticks → get_or ticks k 0 ≤ 16777216 * 2 ^ 32
 
+-- how many bytes the samples before every sixteenth one take
+pub record AreSums (sizes sums : List ℕ) : Type 0 where
+  pub long : length sums ≡ length sizes / 16 + 1
+  pub at : (k : ℕ) → k < length sums → get_or sums k 0 ≡ sum (take (16 * k) sizes)
+  pub bound : (k : ℕ) → k < length sums → get_or sums k 0 ≤ 16777216 * 2 ^ 32
+
+-- they are kept where each sample has a size of its own
+abbrev pub HaveSums : Sizes → List ℕ → Type 0
+HaveSums (Same size count) sums = Unit {0}
+HaveSums (Each sizes) sums = AreSums sizes sums
+
 -- The tables and chunks of a cursor, with how many samples come before each run of deltas, how long they last, and how many samples
--- come before each run of composition offsets and before each chunk.
-pub record Indexed (t : HeldTables) (chunks : List ChunkAt) (time_starts ticks offset_starts chunk_starts : List ℕ) : Type 0 where
+-- come before each run of composition offsets and before each chunk, and how many bytes those before every sixteenth one take.
+pub record Indexed (t : HeldTables) (chunks : List ChunkAt) (time_starts ticks offset_starts chunk_starts sums : List ℕ) : Type 0 where
   pub sound : Sound t chunks
   pub times : AreStarts (counts_of_runs t.deltas) time_starts
   pub lasting : AreTicks t.deltas ticks
   pub offsets : AreStarts (counts_of_runs t.offsets) offset_starts
   pub starts : AreStarts (counts_as chunks) chunk_starts
+  pub sizes : HaveSums t.sizes sums

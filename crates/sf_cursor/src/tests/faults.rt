@@ -2,7 +2,6 @@
 
 use super::*;
 use sf_box::BoxFault;
-use std::test::Fail;
 
 /// What is wrong with a box with these four tables, which stand at 1000, 1024, 1056 and 1096.
 fn fault_of(

@@ -1,7 +1,6 @@
 //! The samples that tables list, one by one.
 
 use super::*;
-use std::test::Fail;
 
 #[test]
 fn samples_lie_in_their_chunks(rt: HostRuntime) -> Result<(), Fail> {
@@ -11,25 +10,22 @@ fn samples_lie_in_their_chunks(rt: HostRuntime) -> Result<(), Fail> {
         (STSC, FIELDS, SPREAD),
         (STCO, FIELDS, PLACES),
     ];
-    let cursor = read(rt.alloc(), &tables)?.ok().ok_or("refused")?;
     let wanted = [
-        sync(0, 0, 100, 10),
-        sync(1024, 1024, 110, 20),
-        sync(2048, 2048, 200, 30),
+        (0, sync(0, 0, 100, 10)),
+        (1, sync(1024, 1024, 110, 20)),
+        (2, sync(2048, 2048, 200, 30)),
     ];
+    let cursor = cursor_of(rt, &tables)?;
     assert_eq!(rt; cursor.count(), 3);
-    assert_eq!(rt;
-        all(rt.alloc(), &cursor, 230)?.as_slice(),
-        wanted.as_slice()
-    );
+    assert!(rt; finds(&cursor, 230, &wanted));
     // In a file of 229 bytes the last one doesn't lie.
-    assert_eq!(rt; all(rt.alloc(), &cursor, 229)?.len(), 2);
+    assert_eq!(rt; cursor.held(7, 229), outside(2));
     Ok(())
 }
 
 #[test]
 fn one_size_and_one_run_stand_for_many_samples(rt: HostRuntime) -> Result<(), Fail> {
-    // 16 million samples of 5 bytes, 20 ticks apart, in one chunk at 4096.
+    // 16 million samples of 5 bytes, 20 ticks apart, in one chunk at 4096: they end at 83,890,176.
     let tables = [
         (STTS, FIELDS, b"\0\0\0\x01\x01\0\0\0\0\0\0\x14".as_slice()),
         (STSZ, FIELDS, b"\0\0\0\x05\x01\0\0\0".as_slice()),
@@ -40,21 +36,14 @@ fn one_size_and_one_run_stand_for_many_samples(rt: HostRuntime) -> Result<(), Fa
         ),
         (STCO, FIELDS, b"\0\0\0\x01\0\0\x10\0".as_slice()),
     ];
-    let cursor = read(rt.alloc(), &tables)?.ok().ok_or("refused")?;
+    let last = PlainSample {
+        description: 2,
+        ..sync(335_544_300, 335_544_300, 83_890_171, 5)
+    };
+    let cursor = cursor_of(rt, &tables)?;
     assert_eq!(rt; cursor.count(), 16_777_216);
-    let i = 16_777_215;
-    assert!(rt; i < cursor.count() && cursor.lies_within(i, u64::MAX));
-    if i < cursor.count() && cursor.lies_within(i, u64::MAX) {
-        let wanted = PlainSample {
-            decode: 335_544_300,
-            compose: 335_544_300,
-            sync: true,
-            place: 83_890_171,
-            size: 5,
-            description: 2,
-        };
-        assert_eq!(rt; cursor.sample(i), wanted);
-    }
+    assert!(rt; finds(&cursor, 83_890_176, &[(16_777_215, last)]));
+    assert_eq!(rt; cursor.held(7, 83_890_175), outside(16_777_215));
     Ok(())
 }
 
@@ -69,16 +58,13 @@ fn offsets_that_are_missing_are_zero(rt: HostRuntime) -> Result<(), Fail> {
         (STSC, FIELDS, SPREAD),
         (STCO, FIELDS, PLACES),
     ];
-    let cursor = read(rt.alloc(), &tables)?.ok().ok_or("refused")?;
     let wanted = [
-        sync(0, -2, 100, 10),
-        sync(1024, 1031, 110, 20),
-        sync(2048, 2048, 200, 30),
+        (0, sync(0, -2, 100, 10)),
+        (1, sync(1024, 1031, 110, 20)),
+        (2, sync(2048, 2048, 200, 30)),
     ];
-    assert_eq!(rt;
-        all(rt.alloc(), &cursor, 1000)?.as_slice(),
-        wanted.as_slice()
-    );
+    let cursor = cursor_of(rt, &tables)?;
+    assert!(rt; finds(&cursor, 1000, &wanted));
     Ok(())
 }
 
@@ -91,43 +77,65 @@ fn sync_samples_are_numbered_from_1(rt: HostRuntime) -> Result<(), Fail> {
         (STSC, FIELDS, SPREAD),
         (STCO, FIELDS, PLACES),
     ];
-    let cursor = read(rt.alloc(), &tables)?.ok().ok_or("refused")?;
-    let samples = all(rt.alloc(), &cursor, 1000)?;
-    let found = samples.as_slice().iter().map(|sample| sample.sync);
-    let wanted = [true, false, true];
-    assert_eq!(rt; samples.len(), 3);
-    for (found, wanted) in found.zip(wanted) {
-        assert_eq!(rt; found, wanted);
-    }
+    let second = PlainSample {
+        sync: false,
+        ..sync(1024, 1024, 110, 20)
+    };
+    let wanted = [
+        (0, sync(0, 0, 100, 10)),
+        (1, second),
+        (2, sync(2048, 2048, 200, 30)),
+    ];
+    let cursor = cursor_of(rt, &tables)?;
+    assert!(rt; finds(&cursor, 1000, &wanted));
     Ok(())
 }
 
 #[test]
 fn wide_places_and_compact_sizes_are_read(rt: HostRuntime) -> Result<(), Fail> {
     // Sizes 1, 2 and 3 of four bits; chunks at 2^32 + 1 and at 7.
+    let sizes = b"\0\0\0\x04\0\0\0\x03\x12\x30".as_slice();
+    let places = b"\0\0\0\x02\0\0\0\x01\0\0\0\x01\0\0\0\0\0\0\0\x07".as_slice();
     let tables = [
         (STTS, FIELDS, TIMES),
-        (
-            FourCc(*b"stz2"),
-            FIELDS,
-            b"\0\0\0\x04\0\0\0\x03\x12\x30".as_slice(),
-        ),
+        (FourCc(*b"stz2"), FIELDS, sizes),
         (STSC, FIELDS, SPREAD),
-        (
-            FourCc(*b"co64"),
-            FIELDS,
-            b"\0\0\0\x02\0\0\0\x01\0\0\0\x01\0\0\0\0\0\0\0\x07".as_slice(),
-        ),
+        (FourCc(*b"co64"), FIELDS, places),
     ];
-    let cursor = read(rt.alloc(), &tables)?.ok().ok_or("refused")?;
     let wanted = [
-        sync(0, 0, 4_294_967_297, 1),
-        sync(1024, 1024, 4_294_967_298, 2),
-        sync(2048, 2048, 7, 3),
+        (0, sync(0, 0, 4_294_967_297, 1)),
+        (1, sync(1024, 1024, 4_294_967_298, 2)),
+        (2, sync(2048, 2048, 7, 3)),
     ];
-    assert_eq!(rt;
-        all(rt.alloc(), &cursor, u64::MAX)?.as_slice(),
-        wanted.as_slice()
-    );
+    let cursor = cursor_of(rt, &tables)?;
+    assert!(rt; finds(&cursor, u64::MAX, &wanted));
+    Ok(())
+}
+
+#[test]
+fn a_sample_late_in_a_long_chunk_has_its_place(rt: HostRuntime) -> Result<(), Fail> {
+    // 40 samples of 1 to 40 bytes, in eight bits each, in one chunk at 100: before the last one stand 780.
+    let sizes = b"\0\0\0\x08\0\0\0\x28\
+        \x01\x02\x03\x04\x05\x06\x07\x08\x09\x0a\x0b\x0c\x0d\x0e\x0f\x10\x11\x12\x13\x14\
+        \x15\x16\x17\x18\x19\x1a\x1b\x1c\x1d\x1e\x1f\x20\x21\x22\x23\x24\x25\x26\x27\x28";
+    let tables = [
+        (STTS, FIELDS, b"\0\0\0\x01\0\0\0\x28\0\0\x04\0".as_slice()),
+        (FourCc(*b"stz2"), FIELDS, sizes.as_slice()),
+        (
+            STSC,
+            FIELDS,
+            b"\0\0\0\x01\0\0\0\x01\0\0\0\x28\0\0\0\x01".as_slice(),
+        ),
+        (STCO, FIELDS, b"\0\0\0\x01\0\0\0\x64".as_slice()),
+    ];
+    let wanted = [
+        (0, sync(0, 0, 100, 1)),
+        (15, sync(15_360, 15_360, 220, 16)),
+        (16, sync(16_384, 16_384, 236, 17)),
+        (39, sync(39_936, 39_936, 880, 40)),
+    ];
+    let cursor = cursor_of(rt, &tables)?;
+    assert!(rt; finds(&cursor, 920, &wanted));
+    assert_eq!(rt; cursor.held(7, 919), outside(39));
     Ok(())
 }

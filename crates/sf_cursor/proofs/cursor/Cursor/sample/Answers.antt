@@ -39,8 +39,8 @@ place_at-requires-clause-fits c =
     let k = kept c.self.inside.tables chunks c.self.invariant.sound c.args.i c.chunk_of-c.result.0 c.chunk_of-c.result.1 none is there sums in
     rw at (place_fits law c.self.inside.tables chunks c.self.invariant.sound c.args.i c.chunk_of-c.result.0 c.chunk_of-c.result.1 none k lt has)
 
-pub returns : goal.returns
-returns c =
+pub returns-clause-listed : goal.returns-clause-listed
+returns-clause-listed c =
     let law : Law = record { each = c.samples_one_by_one.ensures.each; all = c.samples_one_by_one.ensures.all } in
     let none : ChunkAt = record { place = 0; per = 0; description = 0 } in
     let chunks : List ChunkAt = c.self.inside.chunks in

@@ -1,5 +1,5 @@
 use Rattle.std.proofs.Common.{◌≡◌, ◌+◌, ◌*◌, ◌^◌, ◌≤◌, drop, sum}
-use Rattle.sf_cursor.proofs.look_up.sum_of.Given as goal
+use Rattle.sf_cursor.proofs.sums.sum_of.Given as goal
 
 abbrev pub invariant-loop-size : goal.invariant-loop-size
 invariant-loop-size l = record {

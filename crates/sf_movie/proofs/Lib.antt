@@ -1,0 +1,5 @@
+mod TrackRead
+mod MovieRead
+mod MovieBoxes
+mod Times
+mod KeptTracks

@@ -1,0 +1,3 @@
+pub mod Loaded
+pub mod Loads
+pub mod inner
