@@ -1,10 +1,12 @@
 -- Lines that are gathered and put into a text, one after the other.
-use Rattle.std.proofs.Common.{◌≡◌, ℕ, ◌+◌, ◌≤◌, List, [], ◌++◌, codes, Result, Ok, Err, IfErr, IsErrAnd, refl, ap, sym, subst, ◌∙◌, append_assoc, append-nil, rules, arith}
+use Rattle.std.proofs.Common.{◌≡◌, ℕ, ◌+◌, ◌≤◌, ◌<◌, List, [], ◌++◌, length, codes, Result, Ok, Err, IfErr, IsErrAnd, refl, ap, sym, subst, ◌∙◌, append_assoc, append-nil, rules, arith}
 use Rattle.sf_world.proofs.GrownLemmas.{grown_facts}
 use Rattle.sf_world.specs.Counts.{Rose}
-use Rattle.sf_world.specs.Views.{FailsWithin, Gains, GainsPart, SinkView}
+use Rattle.sf_world.specs.Views.{Gains, GainsPart, SinkView}
 use Rattle.sf_world.specs.declared.failures.Denied.{Denied}
 use Rattle.sf_world.specs.declared.failures.Denied.TheVariants.{Failed, NoMemory}
+use Rattle.sf_app.specs.ListEnds.{GainsSome}
+use Rattle.sf_app.specs.ListText.{start_line}
 use Rattle.sf_app.specs.inner.Gathered.{Stops, Takes}
 
 -- parts of the same bytes under another name
@@ -56,6 +58,9 @@ part_first a b t t' g p = part_same ((g ++ a) ++ b) (g ++ (a ++ b)) t t' (append
 rose_before : (a b c : ℕ) → a ≤ b → Rose b c → Rose a c
 rose_before a b c le r = omega (arith, le, r)
 
+grew : (a b c m n : ℕ) → 0 < m → b ≡ a + m → c ≡ b + n → a < c
+grew a b c m n lt e f = omega (arith, lt, e, f)
+
 -- a stop within bytes is one within more of them
 stop_by : (a b : List ℕ) (denied : Denied) (before middle after : SinkView) → before.faults ≤ middle.faults
     → (GainsPart a middle after → GainsPart b before after) → Stops a denied middle after → Stops b denied before after
@@ -83,6 +88,15 @@ stop_quiet a t = part_none a t
 -- a stop within all lines, where the first ones are put
 pub stop_within : (a b : List ℕ) (denied : Denied) (t t' t'' : SinkView) → t.faults ≤ t'.faults → Gains a t t' → Stops b denied t' t'' → Stops (a ++ b) denied t t''
 stop_within a b denied t t' t'' later x s = stop_by b (a ++ b) denied t t' t'' later (part_behind a b t t' t'' x) s
+
+-- the first line isn't empty
+pub start_some : (us : ℕ) → 0 < length (start_line us)
+unfolding start_line
+start_some us = omega arith
+
+-- want of memory within the rest, where the first ones are put
+pub stop_some : (a b : List ℕ) (t t' t'' : SinkView) → 0 < length a → Gains a t t' → GainsPart b t' t'' → GainsSome (a ++ b) t t''
+stop_some a b t t' t'' lt x p = record { part = part_behind a b t t' t'' x p; some = grew t.size t'.size t''.size (length a) p.count lt x.size p.size }
 
 -- what was gathered is put in the end
 pub all_put : (a : List ℕ) (t t' t'' : SinkView) (g' : List ℕ) → Takes a t [] t' g' → Gains g' t' t'' → Gains a t t''

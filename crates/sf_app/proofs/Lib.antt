@@ -1,3 +1,3 @@
 pub mod Gathering
-pub mod MovieBoxes
 pub mod Performing
+pub mod Listing

@@ -1,23 +1,24 @@
 -- What an input that was fetched and given back says of an answer.
-use Rattle.std.proofs.Common.{◌≡◌, ◌≢◌, ℕ, ◌+◌, ◌≤◌, ◌⊎◌, inl, inr, List, [], ◌∷◌, ◌++◌, Option, Result, Ok, Err, refl, ap, sym, subst, ◌∙◌, rules, arith}
+use Rattle.std.proofs.Common.{◌≡◌, ℕ, inr, List, [], ◌∷◌, ◌++◌, Option, Result, Err, refl, ap, sym, subst, ◌∙◌, arith}
 use Rattle.sf_meaning.specs.Movie.{movie}
 use Rattle.sf_meaning.specs.declared.movie.PlainMovie.{PlainMovie}
 use Rattle.sf_record.specs.Recorded.{KeptToLimit, Recorded}
-use Rattle.sf_record.specs.Said.{OfSaid, Said}
+use Rattle.sf_record.specs.Said.{OfSaid}
 use Rattle.sf_record.specs.declared.limits.LimitShown.{LimitShown}
 use Rattle.sf_record.specs.declared.outcome.Outcome.{Outcome}
 use Rattle.sf_record.specs.declared.outcome.Outcome.TheVariants as outcomes
 use Rattle.sf_record.specs.declared.outcome.Report.{Report}
-use Rattle.sf_world.specs.Counts.{Rose, both}
+use Rattle.sf_world.specs.Counts.{Rose}
 use Rattle.sf_world.specs.Views.{Gave, GivenBack, InputsView, IsGiven, KeptAtMost, ShelfView, SinkView, SourceView, TakesBack}
 use Rattle.sf_world.specs.declared.failures.Denied.{Denied}
 use Rattle.sf_app.specs.AnswerText.{Puts}
 use Rattle.sf_app.specs.ListEnds.{Reads}
 use Rattle.sf_app.specs.Outside.{Faulty, OfTold}
 use Rattle.sf_app.specs.RecordEnds.{Performs, answered, file_name}
-use Rattle.sf_app.specs.inner.Load.{IsCaused, read_status, Reads as Loads}
-use Rattle.sf_app.specs.declared.movie.load.LoadFault.{LoadFault}
-use Rattle.sf_app.specs.declared.movie.load.LoadFault.TheVariants.{Refused, ReadFault, NoMemory}
+use Rattle.sf_movie.specs.Loads.{IsCaused, Reads as Loads}
+use Rattle.sf_app.specs.inner.Load.{read_status}
+use Rattle.sf_movie.specs.declared.load.LoadFault.{LoadFault}
+use Rattle.sf_movie.specs.declared.load.LoadFault.TheVariants.{Refused, ReadFault, NoMemory}
 
 -- Inputs gave a source, which was given back with this view.
 pub record Visit (name : List ℕ) (source end : SourceView) (before middle after : InputsView) : Type 0 where

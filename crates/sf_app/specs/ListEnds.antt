@@ -1,5 +1,5 @@
 -- How the list of a movie ends.
-use Rattle.std.specs.Prelude.{◌≡◌, ◌≢◌, ℕ, ◌⊎◌, List, Option, Some, Result, Ok, Err}
+use Rattle.std.specs.Prelude.{◌≡◌, ◌≢◌, ◌<◌, ℕ, ◌⊎◌, List, Option, Some, Result, Ok, Err}
 use Rattle.sf_world.specs.Counts.{Rose}
 use Rattle.sf_world.specs.Views.{FailsWithin, Gains, GainsPart, GivenBack, InputsView, NotAsked, Says, SinkView, SourceView}
 use Rattle.sf_meaning.specs.Movie.{Step, movie}
@@ -55,7 +55,12 @@ Reads name (Err (MovieRefused fault)) i i' = AreRefused (i.holds name) fault × 
 Reads name (Err (LimitReached limit)) i i' = ⊥
 Reads name (Err NoMemory) i i' = NotAsked i i' ⊎ GivenBack name i i'
 
--- what becomes of a text into which the list of a movie is put, by the answer: it gained all of it, or failed within it; without memory it gained a first part of it, or, where that is nothing, the line of the answer as far as it goes
+-- A text gained a first part of some lines, and not nothing.
+pub record GainsSome (lines : List ℕ) (before after : SinkView) : Type 0 where
+  pub part : GainsPart lines before after
+  pub some : before.size < after.size
+
+-- what becomes of a text into which the list of a movie is put, by the answer: it gained all of it, or failed within it, or memory ran out once a part of it was put
 abbrev pub TellsList : List ℕ → Status → SinkView → SinkView → Type 0
 TellsList lines Done t t' = Gains lines t t'
 TellsList lines (Usage fault) t t' = ⊥
@@ -65,7 +70,7 @@ TellsList lines WriteFault t t' = FailsWithin lines t t'
 TellsList lines (InputRefused track fault) t t' = ⊥
 TellsList lines (MovieRefused fault) t t' = ⊥
 TellsList lines (LimitReached limit) t t' = ⊥
-TellsList lines NoMemory t t' = GainsPart lines t t' ⊎ Says (line_of NoMemory) t t'
+TellsList lines NoMemory t t' = GainsSome lines t t'
 
 -- The movie was read, and the text lists it as far as the answer says.
 pub record TellsMovie (name : List ℕ) (result : Status) (b a : Outside) : Type 0 where

@@ -2,4 +2,4 @@
 pub mod Commands
 pub mod Gathered
 pub mod Load
-pub mod Walk
+pub mod Listing

@@ -1,9 +1,11 @@
 //! The command `list`.
 
-ghost use Rattle.std.specs.Prelude.{◌≡◌, ◌⊎◌, ℕ, ◌≤◌, List, Some, Ok, Err, IfOk};
-ghost use Rattle.sf_app.specs.ListEnds.{Answered, ListEnds, Reads, TellsList};
+ghost use Rattle.std.specs.Prelude.{◌≡◌, ◌⊎◌, ℕ, List, Some};
+ghost use Rattle.sf_app.specs.ListEnds.{Answered, ListEnds, Reads};
 ghost use Rattle.sf_app.specs.ListText.{listed};
 ghost use Rattle.sf_app.specs.Outside.{KeepInputs, outside_of};
+ghost use Rattle.sf_app.specs.inner.Gathered.{TellsOrNot};
+ghost use Rattle.sf_app.specs.inner.Listing.{plain_of};
 ghost use Rattle.sf_app.specs.inner.Load.{read_status};
 ghost use Rattle.sf_meaning.specs.Movie.{movie};
 ghost use Rattle.sf_world.specs.Counts.{Rose};
@@ -12,8 +14,7 @@ ghost use Rattle.sf_world.specs.Views.{ShelfView};
 use super::Status;
 use super::answer_text::put_answer;
 use super::list_text::{PutFault, put_movie};
-use super::movie::load::{LoadFault, load_movie};
-use sf_meaning::PlainMovie;
+use sf_movie::{LoadFault, Movie};
 use sf_world::{Denied, Inputs, Sink};
 use std::alloc::Global;
 
@@ -29,20 +30,19 @@ fn status_of(fault: LoadFault) -> Status
 }
 
 // Fetches the movie of a name, reads it, and gives its source back.
-fn read_input<I: Inputs>(alloc: Global, inputs: &mut I, name: &str) -> Result<PlainMovie, Status>
-    ensures reads { Reads name.now result (I.seen inputs.old) (I.seen inputs.new) }
-    ensures scale { IfOk result (λ it. 1 ≤ it.scale) }
+fn read_input<I: Inputs>(alloc: Global, inputs: &mut I, name: &str) -> Result<Movie, Status>
+    ensures reads { Reads name.now (plain_of result) (I.seen inputs.old) (I.seen inputs.new) }
     ensures inputs { KeepInputs (I.seen inputs.old) (I.seen inputs.new) }
     ensures complete { (file : List ℕ) → (I.seen inputs.old).holds name.now ≡ Some file
         → ¬ Rose (I.seen inputs.old).misses (I.seen inputs.new).misses → ¬ Rose (I.seen inputs.old).faults (I.seen inputs.new).faults
-        → Answered result (movie file) }
+        → Answered (plain_of result) (movie file) }
 {
     let mut source = match inputs.fetch(name) {
         Ok(source) => source,
         Err(Denied::Failed) => return Err(Status::OpenFault { input: 0 }),
         Err(Denied::NoMemory) => return Err(Status::NoMemory),
     };
-    let loaded = load_movie(alloc, &mut source);
+    let loaded = Movie::load(alloc, &mut source);
     inputs.give_back(source);
     match loaded {
         Ok(movie) => Ok(movie),
@@ -50,20 +50,16 @@ fn read_input<I: Inputs>(alloc: Global, inputs: &mut I, name: &str) -> Result<Pl
     }
 }
 
-// Puts the list of a movie into the text. Where there was no memory before its first line, the text
-// gets the line of that answer.
-fn tell_movie<T: Sink>(alloc: Global, text: &mut T, movie: &PlainMovie) -> Status
-    requires { 1 ≤ movie.now.scale }
-    ensures { TellsList (listed movie.now) result (T.seen text.old) (T.seen text.new) }
+// Puts the list of a movie into the text. It errs with the answer that the text doesn't tell yet: there
+// was no memory before the first line.
+fn tell_movie<T: Sink>(alloc: Global, text: &mut T, movie: &Movie) -> Result<Status, Status>
+    ensures { TellsOrNot (listed movie.now.movie) result (T.seen text.old) (T.seen text.new) }
 {
     match put_movie(alloc, text, movie) {
-        Ok(()) => Status::Done,
-        Err(PutFault::WriteFault) => Status::WriteFault,
-        Err(PutFault::NoMemory) => {
-            let _put = put_answer(alloc, text, &Status::NoMemory);
-            Status::NoMemory
-        }
-        Err(PutFault::NoMemoryWithin) => Status::NoMemory,
+        Ok(()) => Ok(Status::Done),
+        Err(PutFault::WriteFault) => Ok(Status::WriteFault),
+        Err(PutFault::NoMemory) => Err(Status::NoMemory),
+        Err(PutFault::NoMemoryWithin) => Ok(Status::NoMemory),
     }
 }
 
@@ -77,11 +73,13 @@ pub(crate) fn run_list<I: Inputs, T: Sink>(
     ensures { (shelf : ShelfView) → ListEnds name.now result (outside_of (I.seen inputs.old) shelf (T.seen text.old))
         (outside_of (I.seen inputs.new) shelf (T.seen text.new)) }
 {
-    match read_input(alloc, inputs, name) {
-        Ok(movie) => tell_movie(alloc, text, &movie),
-        Err(status) => {
-            let _put = put_answer(alloc, text, &status);
-            status
-        }
-    }
+    let status = match read_input(alloc, inputs, name) {
+        Ok(movie) => match tell_movie(alloc, text, &movie) {
+            Ok(status) => return status,
+            Err(status) => status,
+        },
+        Err(status) => status,
+    };
+    let _put = put_answer(alloc, text, &status);
+    status
 }

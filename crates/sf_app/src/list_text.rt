@@ -1,13 +1,14 @@
 //! The list of a movie, put into a text.
 
-ghost use Rattle.std.specs.Prelude.{◌≡◌, ◌≤◌, [], ◌++◌, string_bytes, OnOk, IfErr, IfOk, MatchResult};
-ghost use Rattle.sf_app.specs.ListText.{kind_word, lead_us, listed, sample_line, sample_lines, start_line, sync_count, sync_number, track_line, track_lines};
+ghost use Rattle.std.specs.Prelude.{◌≡◌, ◌≤◌, ◌<◌, [], ◌++◌, length, string_bytes, OnOk, IfErr, IfOk, MatchResult};
+ghost use Rattle.sf_app.specs.ListText.{kind_word, listed, sample_line, sample_lines, start_line, sync_count, sync_number, track_line, track_lines};
 ghost use Rattle.sf_app.specs.AnswerText.{Puts};
+ghost use Rattle.sf_app.specs.inner.Listing.{track_at};
 ghost use Rattle.sf_app.specs.inner.Gathered.{PutsList, Stops, Takes};
 ghost use Rattle.sf_world.specs.Views.{Gains};
 
 use sf_list::Bytes;
-use sf_meaning::{PlainMovie, PlainSample, PlainTrack, TrackKind};
+use sf_movie::{Movie, PlainSample, TrackKind};
 use sf_world::{Denied, Sink};
 use std::alloc::{AllocError, Global};
 use std::fmt::Write;
@@ -47,15 +48,15 @@ fn sync_number(sync: bool) -> u8
     if sync { 1 } else { 0 }
 }
 
-// The line of a sample of a track, both counted from 0.
+// The line of a sample of a track, both counted from 0, in place of another line.
 #[tactic(auto, unfolding(crate::specs::ListText::sample_line))]
 fn sample_line(
-    alloc: Global,
-    track: u64,
+    line: &mut String,
+    track: u32,
     number: u64,
     sample: &PlainSample,
-) -> Result<String, AllocError>
-    ensures { IfOk result (λ line. string_bytes line ≡ sample_line track number sample.now) }
+) -> Result<(), AllocError>
+    ensures { OnOk result (string_bytes line.new ≡ sample_line track number sample.now) }
 {
     let PlainSample {
         decode,
@@ -65,25 +66,28 @@ fn sample_line(
         ..
     } = *sample;
     let sync = sync_number(sync);
-    let mut line = format!(in alloc; "sample {track} {number} {decode} ")?;
+    line.clear();
+    write!(line, "sample {track} {number} {decode} ")?;
     write!(line, "{compose} {sync} {size}\n")?;
-    Ok(line)
+    Ok(())
 }
 
-// The lines of a track's samples.
+// The lines of the samples of a track.
 fn put_samples<T: Sink>(
     alloc: Global,
     text: &mut T,
     gathered: &mut Bytes,
-    track: u64,
-    samples: &[PlainSample],
+    movie: &Movie,
+    track: u32,
 ) -> Result<(), Denied>
-    ensures ok { OnOk result (Takes (sample_lines track 0 samples.now) (T.seen text.old) gathered.old (T.seen text.new) gathered.new) }
-    ensures err { IfErr result (λ denied. Stops (gathered.old ++ sample_lines track 0 samples.now) denied (T.seen text.old) (T.seen text.new)) }
+    requires { track < length movie.now.movie.tracks }
+    ensures ok { OnOk result (Takes (sample_lines track 0 (track_at movie.now.movie track).samples) (T.seen text.old) gathered.old (T.seen text.new) gathered.new) }
+    ensures err { IfErr result (λ denied. Stops (gathered.old ++ sample_lines track 0 (track_at movie.now.movie track).samples) denied (T.seen text.old) (T.seen text.new)) }
     ensures later { (T.seen text.old).faults ≤ (T.seen text.new).faults }
 {
-    for number in 0..samples.len() {
-        let line = sample_line(alloc, track, number as u64, &samples[number])?;
+    let mut line = String::new(alloc);
+    for number in 0..movie.count(track) {
+        sample_line(&mut line, track, number, &movie.sample(track, number))?;
         put_line(text, gathered, line.as_str())?;
     }
     Ok(())
@@ -100,38 +104,32 @@ fn kind_word(kind: TrackKind) -> &'static str
     }
 }
 
-// A lead in ticks of a movie, in microseconds.
-fn lead_us(scale: u32, lead: u64) -> u128
-    requires { 1 ≤ scale }
-    ensures { result ≡ lead_us scale lead }
+// How many samples of a track are sync.
+fn sync_count(movie: &Movie, track: u32) -> u64
+    requires { track < length movie.now.movie.tracks }
+    ensures { result ≡ sync_count (track_at movie.now.movie track).samples }
 {
-    u128::from(lead) * 1_000_000 / u128::from(scale)
+    let mut syncs = 0u64;
+    for number in 0..movie.count(track) {
+        if movie.sample(track, number).sync {
+            syncs += 1;
+        }
+    }
+    syncs
 }
 
-// How many samples are sync.
-fn sync_count(samples: &[PlainSample]) -> usize
-    ensures { result ≡ sync_count samples.now }
-{
-    samples.iter().filter(|sample| sample.sync).count()
-}
-
-// The line of a track of a movie of this timescale.
+// The line of a track of a movie.
 #[tactic(auto, unfolding(crate::specs::ListText::track_line))]
-fn track_line(
-    alloc: Global,
-    movie_scale: u32,
-    number: u64,
-    track: &PlainTrack,
-) -> Result<String, AllocError>
-    requires { 1 ≤ movie_scale }
-    ensures { IfOk result (λ line. string_bytes line ≡ track_line movie_scale number track.now) }
+fn track_line(alloc: Global, movie: &Movie, track: u32) -> Result<String, AllocError>
+    requires { track < length movie.now.movie.tracks }
+    ensures { IfOk result (λ line. string_bytes line ≡ track_line movie.now.movie.scale track (track_at movie.now.movie track)) }
 {
-    let kind = kind_word(track.kind);
-    let scale = track.scale;
-    let samples = track.samples.len();
-    let syncs = sync_count(track.samples.as_slice());
-    let lead = lead_us(movie_scale, track.lead);
-    let mut line = format!(in alloc; "track {number} {kind} {scale} ")?;
+    let kind = kind_word(movie.kind(track));
+    let scale = movie.scale(track);
+    let samples = movie.count(track);
+    let syncs = sync_count(movie, track);
+    let lead = movie.lead_us(track);
+    let mut line = format!(in alloc; "track {track} {kind} {scale} ")?;
     write!(line, "{samples} {syncs} {lead}\n")?;
     Ok(line)
 }
@@ -141,19 +139,18 @@ fn put_track<T: Sink>(
     alloc: Global,
     text: &mut T,
     gathered: &mut Bytes,
-    scale: u32,
-    number: u64,
-    track: &PlainTrack,
+    movie: &Movie,
+    track: u32,
 ) -> Result<(), Denied>
-    requires { 1 ≤ scale }
-    ensures ok { OnOk result (Takes (track_line scale number track.now ++ sample_lines number 0 track.now.samples)
+    requires { track < length movie.now.movie.tracks }
+    ensures ok { OnOk result (Takes (track_line movie.now.movie.scale track (track_at movie.now.movie track) ++ sample_lines track 0 (track_at movie.now.movie track).samples)
         (T.seen text.old) gathered.old (T.seen text.new) gathered.new) }
-    ensures err { IfErr result (λ denied. Stops (gathered.old ++ (track_line scale number track.now ++ sample_lines number 0 track.now.samples)) denied (T.seen text.old) (T.seen text.new)) }
+    ensures err { IfErr result (λ denied. Stops (gathered.old ++ (track_line movie.now.movie.scale track (track_at movie.now.movie track) ++ sample_lines track 0 (track_at movie.now.movie track).samples)) denied (T.seen text.old) (T.seen text.new)) }
     ensures later { (T.seen text.old).faults ≤ (T.seen text.new).faults }
 {
-    let line = track_line(alloc, scale, number, track)?;
+    let line = track_line(alloc, movie, track)?;
     put_line(text, gathered, line.as_str())?;
-    put_samples(alloc, text, gathered, number, track.samples.as_slice())
+    put_samples(alloc, text, gathered, movie, track)
 }
 
 // The lines of the tracks.
@@ -161,16 +158,14 @@ fn put_tracks<T: Sink>(
     alloc: Global,
     text: &mut T,
     gathered: &mut Bytes,
-    scale: u32,
-    tracks: &[PlainTrack],
+    movie: &Movie,
 ) -> Result<(), Denied>
-    requires { 1 ≤ scale }
-    ensures ok { OnOk result (Takes (track_lines scale 0 tracks.now) (T.seen text.old) gathered.old (T.seen text.new) gathered.new) }
-    ensures err { IfErr result (λ denied. Stops (gathered.old ++ track_lines scale 0 tracks.now) denied (T.seen text.old) (T.seen text.new)) }
+    ensures ok { OnOk result (Takes (track_lines movie.now.movie.scale 0 movie.now.movie.tracks) (T.seen text.old) gathered.old (T.seen text.new) gathered.new) }
+    ensures err { IfErr result (λ denied. Stops (gathered.old ++ track_lines movie.now.movie.scale 0 movie.now.movie.tracks) denied (T.seen text.old) (T.seen text.new)) }
     ensures later { (T.seen text.old).faults ≤ (T.seen text.new).faults }
 {
-    for number in 0..tracks.len() {
-        put_track(alloc, text, gathered, scale, number as u64, &tracks[number])?;
+    for track in 0..movie.track_count() {
+        put_track(alloc, text, gathered, movie, track)?;
     }
     Ok(())
 }
@@ -185,20 +180,13 @@ fn start_line(alloc: Global, start_us: u64) -> Result<String, AllocError>
 
 // Puts the lines of the tracks of a movie into a text. After an error a first part of them was put
 // there.
-fn put_all_tracks<T: Sink>(alloc: Global, text: &mut T, movie: &PlainMovie) -> Result<(), Denied>
-    requires { 1 ≤ movie.now.scale }
-    ensures ok { OnOk result (Gains (track_lines movie.now.scale 0 movie.now.tracks) (T.seen text.old) (T.seen text.new)) }
-    ensures err { IfErr result (λ denied. Stops (track_lines movie.now.scale 0 movie.now.tracks) denied (T.seen text.old) (T.seen text.new)) }
+fn put_all_tracks<T: Sink>(alloc: Global, text: &mut T, movie: &Movie) -> Result<(), Denied>
+    ensures ok { OnOk result (Gains (track_lines movie.now.movie.scale 0 movie.now.movie.tracks) (T.seen text.old) (T.seen text.new)) }
+    ensures err { IfErr result (λ denied. Stops (track_lines movie.now.movie.scale 0 movie.now.movie.tracks) denied (T.seen text.old) (T.seen text.new)) }
     ensures later { (T.seen text.old).faults ≤ (T.seen text.new).faults }
 {
     let mut gathered = Bytes::new(alloc);
-    put_tracks(
-        alloc,
-        text,
-        &mut gathered,
-        movie.scale,
-        movie.tracks.as_slice(),
-    )?;
+    put_tracks(alloc, text, &mut gathered, movie)?;
     put_gathered(text, &mut gathered)
 }
 
@@ -225,16 +213,11 @@ fn put_start<T: Sink>(alloc: Global, text: &mut T, start_us: u64) -> Result<(), 
 /// Puts the list of a movie into a text. The first line is put by itself, so that want of memory
 /// before it is told apart from want of memory within the list.
 #[tactic(auto, unfolding(crate::specs::ListText::listed))]
-pub(crate) fn put_movie<T: Sink>(
-    alloc: Global,
-    text: &mut T,
-    movie: &PlainMovie,
-) -> Result<(), PutFault>
-    requires { 1 ≤ movie.now.scale }
-    ensures puts { PutsList (listed movie.now) result (T.seen text.old) (T.seen text.new) }
+pub(crate) fn put_movie<T: Sink>(alloc: Global, text: &mut T, movie: &Movie) -> Result<(), PutFault>
+    ensures puts { PutsList (listed movie.now.movie) result (T.seen text.old) (T.seen text.new) }
     ensures later { (T.seen text.old).faults ≤ (T.seen text.new).faults }
 {
-    match put_start(alloc, text, movie.start_us) {
+    match put_start(alloc, text, movie.start_us()) {
         Ok(()) => {}
         Err(Denied::Failed) => return Err(PutFault::WriteFault),
         Err(Denied::NoMemory) => return Err(PutFault::NoMemory),

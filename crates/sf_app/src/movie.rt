@@ -3,18 +3,14 @@
 ghost use Rattle.std.specs.Prelude.{◌≡◌, ◌⊎◌, ℕ, List, Some, Err};
 ghost use Rattle.sf_app.specs.ListEnds.{Lists, list_answer};
 ghost use Rattle.sf_app.specs.declared.list_text.PutFault.TheVariants as puts;
-ghost use Rattle.sf_app.specs.declared.movie.load.LoadFault.TheVariants as loads;
 ghost use Rattle.sf_app.specs.inner.Load.{listed_fault, put_fault};
 ghost use Rattle.sf_meaning.specs.Movie.{movie};
 ghost use Rattle.sf_world.specs.Counts.{Rose};
 ghost use Rattle.sf_world.specs.Views.{Unchanged};
 
-pub(crate) mod load;
-mod walk;
-
 use super::list_text::{PutFault, put_movie};
-use load::{LoadFault, load_movie};
 use sf_meaning::MovieFault;
+use sf_movie::{LoadFault, Movie};
 use sf_world::{Sink, Source};
 use std::alloc::Global;
 
@@ -70,7 +66,7 @@ pub fn list_movie<S: Source, T: Sink>(
         → (result ≡ Err ListFault.NoMemory) ⊎ (result ≡ list_answer (movie file)) }
     ensures source { Unchanged (S.seen source.old) (S.seen source.new) }
 {
-    let movie = load_movie(alloc, source)?;
+    let movie = Movie::load(alloc, source)?;
     put_movie(alloc, text, &movie)?;
     Ok(())
 }

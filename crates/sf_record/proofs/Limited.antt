@@ -6,7 +6,7 @@ use Rattle.sf_tick.specs.declared.types.Stored.{Stored}
 use Rattle.sf_tick.specs.declared.types.Chunk.{Chunk}
 use Rattle.sf_entry.specs.declared.track_setup.TrackSetup.{TrackSetup}
 use Rattle.sf_gather.specs.Accepting.{last_of}
-use Rattle.sf_meaning.specs.Layout.{timed}
+use Rattle.sf_meaning.specs.Rows.{timed}
 use Rattle.sf_layout.specs.Layout.{first_us, movie_box, track_rows, track_samples, tracks_of}
 use Rattle.sf_layout.proofs.LayoutLaws.{rows_timed, samples_grown}
 use Rattle.sf_file.specs.Open.{Appendable, ClosesAs, HeldTrack, OpenFile, count_of, held_from, setups_of}

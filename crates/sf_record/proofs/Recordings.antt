@@ -13,7 +13,7 @@ use Rattle.sf_gather.proofs.GatherLaws.{chunks_joined}
 use Rattle.sf_file.specs.Holdable.{Holdable}
 use Rattle.sf_entry.specs.declared.track_setup.TrackSetup.{TrackSetup}
 use Rattle.sf_meaning.specs.Joined.{joined}
-use Rattle.sf_meaning.specs.Layout.{held_as}
+use Rattle.sf_meaning.specs.Rows.{held_as}
 use Rattle.sf_layout.specs.Layout.{layout, samples_of, track_samples}
 use Rattle.sf_record.specs.Input.{IsFront, IsOfBytes, OfInput, Taken, ended, input_of, with_front}
 use Rattle.sf_record.specs.Limits.{Put, filled, limit_behind, put_all, put_behind, stopped}

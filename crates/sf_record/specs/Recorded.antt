@@ -6,7 +6,7 @@ use Rattle.sf_world.specs.Views.{KeptAtMost, KeptFile, KeptNone, ShelfView}
 use Rattle.sf_coded.specs.declared.types.CodedFault.TheVariants.{ReadFault as CodedReadFault}
 use Rattle.sf_entry.specs.declared.track_setup.TrackSetup.{TrackSetup}
 use Rattle.sf_meaning.specs.Joined.{joined}
-use Rattle.sf_meaning.specs.Layout.{held_as}
+use Rattle.sf_meaning.specs.Rows.{held_as}
 use Rattle.sf_layout.specs.Layout.{layout, track_samples}
 use Rattle.sf_record.specs.Input.{IsOfBytes}
 use Rattle.sf_record.specs.Said.{Said, put_front, put_of}

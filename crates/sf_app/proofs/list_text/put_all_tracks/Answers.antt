@@ -1,6 +1,5 @@
-use Rattle.std.proofs.Common.{◌≡◌, ℕ, List, [], ◌++◌, subst, sym, ap, ◌∙◌}
+use Rattle.std.proofs.Common.{◌≡◌, ℕ, List, [], ◌++◌, subst}
 use Rattle.std.proofs.lemmas.Result.{on_ok_weaker}
-use Rattle.sf_meaning.specs.declared.movie.PlainTrack.{PlainTrack}
 use Rattle.sf_app.specs.ListText.{track_lines}
 use Rattle.sf_app.specs.inner.Gathered.{Stops, Takes}
 use Rattle.sf_app.proofs.Gathering.{all_put, err_is, if_err_weaker, stop_end}
@@ -9,30 +8,30 @@ use Rattle.sf_world.specs.Views.{SinkView}
 use Rattle.sf_world.specs.declared.failures.Denied.{Denied}
 
 -- lines, where nothing was gathered before
-from_nothing : (scale : ℕ) (ts ts' : List PlainTrack) (t t' : SinkView) (g g' : List ℕ) → ts ≡ ts' → g ≡ [] → Takes (track_lines scale 0 ts) t g t' g' → Takes (track_lines scale 0 ts') t [] t' g'
-from_nothing scale ts ts' t t' g g' e none x = subst (λ (l : List PlainTrack). Takes (track_lines scale 0 l) t [] t' g') e (subst (λ (h : List ℕ). Takes (track_lines scale 0 ts) t h t' g') none x)
+from_nothing : (lines : List ℕ) (t t' : SinkView) (g g' : List ℕ) → g ≡ [] → Takes lines t g t' g' → Takes lines t [] t' g'
+from_nothing lines t t' g g' none x = subst (λ (h : List ℕ). Takes lines t h t' g') none x
 
-stop_from_nothing : (scale : ℕ) (ts ts' : List PlainTrack) (denied : Denied) (t t' : SinkView) (g : List ℕ) → ts ≡ ts' → g ≡ [] → Stops (g ++ track_lines scale 0 ts) denied t t' → Stops (track_lines scale 0 ts') denied t t'
-stop_from_nothing scale ts ts' denied t t' g e none x = subst (λ (l : List PlainTrack). Stops (track_lines scale 0 l) denied t t') e (subst (λ (h : List ℕ). Stops (h ++ track_lines scale 0 ts) denied t t') none x)
+stop_from_nothing : (lines : List ℕ) (denied : Denied) (t t' : SinkView) (g : List ℕ) → g ≡ [] → Stops (g ++ lines) denied t t' → Stops lines denied t t'
+stop_from_nothing lines denied t t' g none x = subst (λ (h : List ℕ). Stops (h ++ lines) denied t t') none x
 
 pub returns-in_err-put_tracks-clause-err : goal.returns-in_err-put_tracks-clause-err
 returns-in_err-put_tracks-clause-err g c =
-    err_is _ _ _ c.from_residual.ensures.1 (stop_from_nothing _ _ _ _ _ _ _ c.as_slice.ensures c.new-gathered.ensures c.in_err-put_tracks.ensures.err)
+    err_is _ _ _ c.from_residual.ensures.1 (stop_from_nothing _ _ _ _ _ c.new-gathered.ensures c.in_err-put_tracks.ensures.err)
 
 pub returns-clause-ok : goal.returns-clause-ok
 returns-clause-ok g c =
-    let m = c.args.movie.now in
+    let m = c.args.movie.now.movie in
     let t = g.T.Sink.seen c.args.text.now in
     let t' = g.T.Sink.seen c.put_tracks.new.text in
-    let taken : Takes (track_lines m.scale 0 m.tracks) t [] t' c.put_tracks.new.gathered = from_nothing _ _ _ _ _ _ _ c.as_slice.ensures c.new-gathered.ensures c.in_ok-put_tracks.ensures.ok in
+    let taken : Takes (track_lines m.scale 0 m.tracks) t [] t' c.put_tracks.new.gathered = from_nothing _ _ _ _ _ c.new-gathered.ensures c.in_ok-put_tracks.ensures.ok in
     on_ok_weaker c.put_gathered.result (λ e. all_put (track_lines m.scale 0 m.tracks) t t' (g.T.Sink.seen c.put_gathered.new.text) c.put_tracks.new.gathered taken e) c.put_gathered.ensures.ok
 
 pub returns-clause-err : goal.returns-clause-err
 returns-clause-err g c =
-    let m = c.args.movie.now in
+    let m = c.args.movie.now.movie in
     let t = g.T.Sink.seen c.args.text.now in
     let t' = g.T.Sink.seen c.put_tracks.new.text in
-    let taken : Takes (track_lines m.scale 0 m.tracks) t [] t' c.put_tracks.new.gathered = from_nothing _ _ _ _ _ _ _ c.as_slice.ensures c.new-gathered.ensures c.in_ok-put_tracks.ensures.ok in
+    let taken : Takes (track_lines m.scale 0 m.tracks) t [] t' c.put_tracks.new.gathered = from_nothing _ _ _ _ _ c.new-gathered.ensures c.in_ok-put_tracks.ensures.ok in
     if_err_weaker c.put_gathered.result _ _
     (λ denied s. stop_end (track_lines m.scale 0 m.tracks) denied t t' (g.T.Sink.seen c.put_gathered.new.text) c.put_tracks.new.gathered c.put_tracks.ensures.later taken s)
     c.put_gathered.ensures.err

@@ -1,15 +1,14 @@
-use Rattle.std.proofs.Common.{ℕ, ◌≡◌, ◌+◌, ◌≤◌, ◌∷◌, [], ◌++◌, List, length, drop, get_or, pos, false, sym, ap, subst, ◌∙◌, arith, rules}
-use Rattle.std.proofs.lemmas.List.{drop_more, drop_all}
+use Rattle.std.proofs.Common.{ℕ, ◌≡◌, ◌+◌, ◌≤◌, ◌∷◌, [], ◌++◌, List, length, drop, sym, ap, subst, ◌∙◌, arith, rules}
+use Rattle.std.proofs.lemmas.List.{drop_all}
 use Rattle.sf_meaning.specs.declared.movie.PlainSample.{PlainSample}
 use Rattle.sf_app.specs.ListText.{sample_line, sample_lines}
 use Rattle.sf_app.proofs.Gathering.{Going, err_is, going_first, going_on, going_end, going_quiet, going_stop}
 use Rattle.sf_app.proofs.list_text.put_samples.Goals as goal
+use Rattle.sf_app.specs.inner.Listing.{track_at}
+use Rattle.sf_app.proofs.Listing.{count_told, sample_told}
 use Rattle.sf_world.specs.Views.{SinkView}
 use Rattle.sf_world.specs.declared.failures.Denied.{Denied}
 use Rattle.sf_app.specs.inner.Gathered.{Stops, Takes}
-
-abbrev nothing : PlainSample
-nothing = record { decode = 0; compose = pos 0; sync = false; place = 0; size = 0; description = 0 }
 
 -- the lines of the samples that are left
 next_line : (track i : ℕ) (samples : List PlainSample) (s : PlainSample) → drop i samples ≡ s ∷ drop (i + 1) samples
@@ -40,38 +39,42 @@ stop track i samples s line all denied t t' t'' g g' later split is x y =
 pub loop-number-init : goal.loop-number-init
 loop-number-init g c = record {
   later = omega arith;
-  going = going_first (sample_lines c.args.track 0 c.args.samples.now) (g.T.Sink.seen c.args.text.now) c.args.gathered.now;
+  going = going_first (sample_lines c.args.track 0 (track_at c.args.movie.now.movie c.args.track).samples) (g.T.Sink.seen c.args.text.now) c.args.gathered.now;
 }
 
 pub loop-number-preserved : goal.loop-number-preserved
 loop-number-preserved g c =
-    let s : PlainSample = get_or c.args.samples.now c.loop-number.number nothing in
+    let samples : List PlainSample = (track_at c.args.movie.now.movie c.args.track).samples in
+    let s : PlainSample = c.sample.result in
     record {
       later = omega (arith, c.loop-number.invariant.later, c.put_line.ensures.later);
-      going = on c.args.track c.loop-number.number c.args.samples.now s c.as_str.result.now (sample_lines c.args.track 0 c.args.samples.now)
+      going = on c.args.track c.loop-number.number samples s c.as_str.result.now (sample_lines c.args.track 0 samples)
           (g.T.Sink.seen c.args.text.now) (g.T.Sink.seen c.loop-number.text) (g.T.Sink.seen c.put_line.new.text)
           c.args.gathered.now c.loop-number.gathered c.put_line.new.gathered
-          (drop_more c.args.samples.now c.loop-number.number nothing c.loop-number-test.true)
-          (c.as_str.ensures.value ∙ c.in_ok-line.ensures) c.loop-number.invariant.going c.in_ok-put_line.ensures.ok;
+          (sample_told c.args.movie.now.movie c.args.track c.loop-number.number s c.requires c.sample.ensures.sample)
+          (c.as_str.ensures.value ∙ c.in_ok-sample_line.ensures) c.loop-number.invariant.going c.in_ok-put_line.ensures.ok;
     }
 
-pub returns-in_err-line-clause-err : goal.returns-in_err-line-clause-err
-returns-in_err-line-clause-err g c =
+pub returns-in_err-sample_line-clause-err : goal.returns-in_err-sample_line-clause-err
+returns-in_err-sample_line-clause-err g c =
     let quiet = going_quiet _ _ _ _ _ _ c.loop-number.invariant.later c.loop-number.invariant.going in
     search (rules, quiet)
 
 pub returns-in_err-put_line-clause-err : goal.returns-in_err-put_line-clause-err
 returns-in_err-put_line-clause-err g c =
-    let s : PlainSample = get_or c.args.samples.now c.loop-number.number nothing in
+    let samples : List PlainSample = (track_at c.args.movie.now.movie c.args.track).samples in
+    let s : PlainSample = c.sample.result in
     err_is _ _ _ c.from_residual-in_err-put_line.ensures.1
-    (stop c.args.track c.loop-number.number c.args.samples.now s c.as_str.result.now (sample_lines c.args.track 0 c.args.samples.now) _
+    (stop c.args.track c.loop-number.number samples s c.as_str.result.now (sample_lines c.args.track 0 samples) _
     (g.T.Sink.seen c.args.text.now) (g.T.Sink.seen c.loop-number.text) (g.T.Sink.seen c.put_line.new.text)
     c.args.gathered.now c.loop-number.gathered c.loop-number.invariant.later
-    (drop_more c.args.samples.now c.loop-number.number nothing c.loop-number-test.true)
-    (c.as_str.ensures.value ∙ c.in_ok-line.ensures) c.loop-number.invariant.going c.in_err-put_line.ensures.err)
+    (sample_told c.args.movie.now.movie c.args.track c.loop-number.number s c.requires c.sample.ensures.sample)
+    (c.as_str.ensures.value ∙ c.in_ok-sample_line.ensures) c.loop-number.invariant.going c.in_err-put_line.ensures.err)
 
 pub returns-clause-ok : goal.returns-clause-ok
 returns-clause-ok g c =
+    let samples : List PlainSample = (track_at c.args.movie.now.movie c.args.track).samples in
+    let count : c.count-number-end.result ≡ length samples = count_told c.args.movie.now.movie c.args.track c.count-number-end.result c.requires c.count-number-end.ensures in
     going_end _ _ _ _ _
-    (subst (λ (rest : List ℕ). Going (sample_lines c.args.track 0 c.args.samples.now) rest (g.T.Sink.seen c.args.text.now) c.args.gathered.now (g.T.Sink.seen c.loop-number.text) c.loop-number.gathered)
-    (no_lines c.args.track c.loop-number.number c.args.samples.now c.loop-number-test.false) c.loop-number.invariant.going)
+    (subst (λ (rest : List ℕ). Going (sample_lines c.args.track 0 samples) rest (g.T.Sink.seen c.args.text.now) c.args.gathered.now (g.T.Sink.seen c.loop-number.text) c.loop-number.gathered)
+    (no_lines c.args.track c.loop-number.number samples (omega (arith, count, c.loop-number-test.false))) c.loop-number.invariant.going)

@@ -1,8 +1,9 @@
-use Rattle.std.proofs.Common.{ℕ, ◌≡◌, ◌+◌, ◌≤◌, ◌<◌, ◌∷◌, [], ◌++◌, List, length, drop, get_or, sym, ap, subst, ◌∙◌, arith}
+use Rattle.std.proofs.Common.{ℕ, ◌≡◌, ◌+◌, ◌≤◌, ◌<◌, ◌∷◌, [], ◌++◌, List, length, drop, ap, subst, arith}
 use Rattle.std.proofs.lemmas.List.{drop_more, drop_all}
 use Rattle.sf_meaning.specs.declared.movie.PlainTrack.{PlainTrack}
 use Rattle.sf_app.specs.ListText.{sample_lines, track_line, track_lines}
 use Rattle.sf_app.proofs.Gathering.{Going, err_is, going_first, going_on, going_end, going_stop}
+use Rattle.sf_app.specs.inner.Listing.{no_track, track_at}
 use Rattle.sf_app.proofs.list_text.put_tracks.Goals as goal
 
 -- the lines of a track and of its samples
@@ -19,48 +20,49 @@ no_lines : (scale i : ℕ) (tracks : List PlainTrack) → length tracks ≤ i �
 unfolding track_lines
 no_lines scale i tracks le = ap (track_lines scale i) (drop_all i tracks le)
 
--- the track that is next
-split : (i : ℕ) (tracks : List PlainTrack) (x : PlainTrack) → i < length tracks → x ≡ get_or tracks i x → drop i tracks ≡ x ∷ drop (i + 1) tracks
-split i tracks x lt is = drop_more tracks i x lt ∙ ap (λ (y : PlainTrack). y ∷ drop (i + 1) tracks) (sym is)
-
-pub loop-number-init : goal.loop-number-init
-loop-number-init g c = record {
-  later = omega arith;
-  going = going_first (track_lines c.args.scale 0 c.args.tracks.now) (g.T.Sink.seen c.args.text.now) c.args.gathered.now;
-}
-
-pub loop-number-preserved : goal.loop-number-preserved
-loop-number-preserved g c =
-    let i : ℕ = c.loop-number.number in
-    let tracks : List PlainTrack = c.args.tracks.now in
-    let x : PlainTrack = c.index-tracks-number.result in
-    let left = next_lines c.args.scale i tracks x (split i tracks x c.loop-number-test.true c.index-tracks-number.is) in
+pub loop-track-init : goal.loop-track-init
+loop-track-init g c =
+    let m = c.args.movie.now.movie in
     record {
-      later = omega (arith, c.loop-number.invariant.later, c.put_track.ensures.later);
-      going = going_on (track_lines c.args.scale 0 tracks) (own_lines c.args.scale i x) (track_lines c.args.scale (i + 1) (drop (i + 1) tracks))
-          (g.T.Sink.seen c.args.text.now) (g.T.Sink.seen c.loop-number.text) (g.T.Sink.seen c.put_track.new.text)
-          c.args.gathered.now c.loop-number.gathered c.put_track.new.gathered
-          (subst (λ (rest : List ℕ). Going (track_lines c.args.scale 0 tracks) rest (g.T.Sink.seen c.args.text.now) c.args.gathered.now (g.T.Sink.seen c.loop-number.text) c.loop-number.gathered)
-          left c.loop-number.invariant.going)
+      later = omega arith;
+      going = going_first (track_lines m.scale 0 m.tracks) (g.T.Sink.seen c.args.text.now) c.args.gathered.now;
+    }
+
+pub loop-track-preserved : goal.loop-track-preserved
+loop-track-preserved g c =
+    let m = c.args.movie.now.movie in
+    let i : ℕ = c.loop-track.track in
+    let x : PlainTrack = track_at m i in
+    let lt : i < length m.tracks = omega (arith, c.track_count-track-end.ensures.count, c.loop-track-test.true) in
+    let left = next_lines m.scale i m.tracks x (drop_more m.tracks i no_track lt) in
+    record {
+      later = omega (arith, c.loop-track.invariant.later, c.put_track.ensures.later);
+      going = going_on (track_lines m.scale 0 m.tracks) (own_lines m.scale i x) (track_lines m.scale (i + 1) (drop (i + 1) m.tracks))
+          (g.T.Sink.seen c.args.text.now) (g.T.Sink.seen c.loop-track.text) (g.T.Sink.seen c.put_track.new.text)
+          c.args.gathered.now c.loop-track.gathered c.put_track.new.gathered
+          (subst (λ (rest : List ℕ). Going (track_lines m.scale 0 m.tracks) rest (g.T.Sink.seen c.args.text.now) c.args.gathered.now (g.T.Sink.seen c.loop-track.text) c.loop-track.gathered)
+          left c.loop-track.invariant.going)
           c.in_ok-put_track.ensures.ok;
     }
 
 pub returns-in_err-put_track-clause-err : goal.returns-in_err-put_track-clause-err
 returns-in_err-put_track-clause-err g c =
-    let i : ℕ = c.loop-number.number in
-    let tracks : List PlainTrack = c.args.tracks.now in
-    let x : PlainTrack = c.index-tracks-number.result in
-    let left = next_lines c.args.scale i tracks x (split i tracks x c.loop-number-test.true c.index-tracks-number.is) in
+    let m = c.args.movie.now.movie in
+    let i : ℕ = c.loop-track.track in
+    let x : PlainTrack = track_at m i in
+    let lt : i < length m.tracks = omega (arith, c.track_count-track-end.ensures.count, c.loop-track-test.true) in
+    let left = next_lines m.scale i m.tracks x (drop_more m.tracks i no_track lt) in
     err_is _ _ _ c.from_residual.ensures.1
-    (going_stop (track_lines c.args.scale 0 tracks) (own_lines c.args.scale i x) (track_lines c.args.scale (i + 1) (drop (i + 1) tracks)) _
-    (g.T.Sink.seen c.args.text.now) (g.T.Sink.seen c.loop-number.text) (g.T.Sink.seen c.put_track.new.text)
-    c.args.gathered.now c.loop-number.gathered c.loop-number.invariant.later
-    (subst (λ (rest : List ℕ). Going (track_lines c.args.scale 0 tracks) rest (g.T.Sink.seen c.args.text.now) c.args.gathered.now (g.T.Sink.seen c.loop-number.text) c.loop-number.gathered)
-    left c.loop-number.invariant.going)
+    (going_stop (track_lines m.scale 0 m.tracks) (own_lines m.scale i x) (track_lines m.scale (i + 1) (drop (i + 1) m.tracks)) _
+    (g.T.Sink.seen c.args.text.now) (g.T.Sink.seen c.loop-track.text) (g.T.Sink.seen c.put_track.new.text)
+    c.args.gathered.now c.loop-track.gathered c.loop-track.invariant.later
+    (subst (λ (rest : List ℕ). Going (track_lines m.scale 0 m.tracks) rest (g.T.Sink.seen c.args.text.now) c.args.gathered.now (g.T.Sink.seen c.loop-track.text) c.loop-track.gathered)
+    left c.loop-track.invariant.going)
     c.in_err-put_track.ensures.err)
 
 pub returns-clause-ok : goal.returns-clause-ok
 returns-clause-ok g c =
+    let m = c.args.movie.now.movie in
     going_end _ _ _ _ _
-    (subst (λ (rest : List ℕ). Going (track_lines c.args.scale 0 c.args.tracks.now) rest (g.T.Sink.seen c.args.text.now) c.args.gathered.now (g.T.Sink.seen c.loop-number.text) c.loop-number.gathered)
-    (no_lines c.args.scale c.loop-number.number c.args.tracks.now c.loop-number-test.false) c.loop-number.invariant.going)
+    (subst (λ (rest : List ℕ). Going (track_lines m.scale 0 m.tracks) rest (g.T.Sink.seen c.args.text.now) c.args.gathered.now (g.T.Sink.seen c.loop-track.text) c.loop-track.gathered)
+    (no_lines m.scale c.loop-track.track m.tracks (omega (arith, c.track_count-track-end.ensures.count, c.loop-track-test.false))) c.loop-track.invariant.going)

@@ -1,4 +1,3 @@
-use Rattle.std.proofs.Common.{rules}
 use Rattle.sf_app.proofs.Performing.{performs_by}
 use Rattle.sf_app.proofs.record.record_input.Goals as goal
 
