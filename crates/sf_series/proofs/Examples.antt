@@ -1,14 +1,12 @@
 -- The definitions, run on small recordings whose files were counted by hand.
-use Rattle.std.proofs.Common.{◌≡◌, ℕ, true, false, [], ◌∷◌, codes, Some, None, refl}
+use Rattle.std.proofs.Common.{◌≡◌, ℕ, true, false, [], ◌∷◌, codes, replicate, Some, None, refl}
 use Rattle.sf_box.specs.Boxes.{be16, be32, be64, box_of, wide_box}
 use Rattle.sf_box.specs.Parts.{tiled}
 use Rattle.sf_tick.specs.declared.types.Kind.TheVariants.{Aac}
 use Rattle.sf_tick.specs.declared.types.Stored.{Stored}
 use Rattle.sf_tick.specs.declared.types.Chunk.{Chunk}
 use Rattle.sf_entry.specs.declared.track_setup.TrackSetup.{TrackSetup}
-use Rattle.sf_meaning.specs.Entry.{aac_entry}
-use Rattle.sf_meaning.specs.Stbl.{stts_body, stsz_body, stsc_body, stco_body}
-use Rattle.sf_meaning.specs.Layout.{stbl_box}
+use Rattle.sf_meaning.specs.Stbl.{stts_body, stsz_body, stsc_body, stco_body, stbl_box}
 use Rattle.sf_layout.specs.Headers.{mvhd_body, tkhd_body, elst_body}
 use Rattle.sf_layout.specs.MovieBox.{minf_body, mdia_body, trak_body, moov_of}
 use Rattle.sf_layout.specs.Layout.{movie_box, layout}
@@ -28,7 +26,7 @@ abbrev chunk : ℕ → ℕ → ℕ → ℕ → Chunk
 chunk track number us ticks = record { track = track; number = number; first_us = us; samples = sample us ticks ∷ []; last = false }
 
 abbrev sound : TrackSetup
-sound = record { kind = Aac; scale = 48000; width = 0; height = 0; entry = aac_entry }
+sound = record { kind = Aac; scale = 48000; width = 0; height = 0; entry = replicate 87 0 }
 
 abbrev limits : ℕ → ℕ → ℕ → Limits
 limits max_bytes max_duration_us max_files = record { max_bytes = max_bytes; max_duration_us = max_duration_us; max_files = max_files; stem = codes "a" }

@@ -69,25 +69,25 @@ all_more number (suc at) (setup ∷ setups) lists c own e is less more all =
     let other : c.track ≡ number → ⊥ = λ (w : c.track ≡ number). omega arith in
     (subst P (sym (same_list lists c number other)) all.0, all_more (number + 1) at setups lists c own (omega arith) is less more all.1)
 
-found_inside : (setups : List TrackSetup) (at : ℕ) (own : TrackSetup) → slice_get setups at ≡ Some own → at < length setups
+pub found_inside : (setups : List TrackSetup) (at : ℕ) (own : TrackSetup) → slice_get setups at ≡ Some own → at < length setups
 found_inside [] at own e = cc
 found_inside (setup ∷ setups) zero own e = omega arith
 found_inside (setup ∷ setups) (suc at) own e = let more = found_inside setups at own e in omega arith
 
 -- the marks, and how long they are
-mark_long : (b : Bool) (marks : List Bool) (t : ℕ) → length (cond b (set marks t true) marks) ≡ length marks
+pub mark_long : (b : Bool) (marks : List Bool) (t : ℕ) → length (cond b (set marks t true) marks) ≡ length marks
 mark_long true marks t = length-set marks t true
 mark_long false marks t = refl
 
-list_long : (b : Bool) (lists : List (List Chunk)) (c : Chunk) → length (cond b (with_chunk lists c) lists) ≡ length lists
+pub list_long : (b : Bool) (lists : List (List Chunk)) (c : Chunk) → length (cond b (with_chunk lists c) lists) ≡ length lists
 list_long true lists c = length-set lists c.track _
 list_long false lists c = refl
 
-mark_other : (b : Bool) (marks : List Bool) (at t : ℕ) → (at ≡ t → ⊥) → get_or (cond b (set marks at true) marks) t false ≡ get_or marks t false
+pub mark_other : (b : Bool) (marks : List Bool) (at t : ℕ) → (at ≡ t → ⊥) → get_or (cond b (set marks at true) marks) t false ≡ get_or marks t false
 mark_other true marks at t other = let different : t ≢ at = λ (e : t ≡ at). other (sym e) in get_or-set_other marks at t true false different
 mark_other false marks at t other = refl
 
-list_other : (b : Bool) (lists : List (List Chunk)) (c : Chunk) (t : ℕ) → (c.track ≡ t → ⊥) → list_of (cond b (with_chunk lists c) lists) t ≡ list_of lists t
+pub list_other : (b : Bool) (lists : List (List Chunk)) (c : Chunk) (t : ℕ) → (c.track ≡ t → ⊥) → list_of (cond b (with_chunk lists c) lists) t ≡ list_of lists t
 list_other true lists c t other = same_list lists c t other
 list_other false lists c t other = refl
 

@@ -14,7 +14,7 @@ use Rattle.sf_gather.specs.declared.given.LastSample.{LastSample}
 use Rattle.sf_gather.specs.Accepting.{kept_of}
 use Rattle.sf_gather.specs.Proper.{AllFollow, Proper}
 use Rattle.sf_meaning.specs.Joined.{joined}
-use Rattle.sf_meaning.specs.Layout.{held_as}
+use Rattle.sf_meaning.specs.Rows.{held_as}
 use Rattle.sf_layout.proofs.LayoutLaws.{layouts_joined}
 use Rattle.sf_layout.specs.Layout.{layout, track_chunks, track_samples, stored_bytes}
 use Rattle.sf_layout.specs.Writable.{Writable}
@@ -25,11 +25,14 @@ use Rattle.sf_series.specs.Files.{flat, chunks_of_track}
 use Rattle.sf_series.specs.Core.{State}
 use Rattle.sf_series.specs.Kept.{AllThere, Kept}
 use Rattle.sf_series.specs.Within.{Within}
-use Rattle.sf_series.specs.Fitting.{IsHoldable, AllProper, AreProper, Fits}
+use Rattle.sf_file.specs.Holdable.{Holdable, IsReadable}
+use Rattle.sf_file.specs.Open.{AreSetups}
+use Rattle.sf_series.specs.Switching.{closed_length, passes}
+use Rattle.sf_series.specs.Fitting.{AllProper, AreProper, Fits}
 use Rattle.sf_series.specs.Dealt.{order_of, write_order, dealt, HasBytes}
 use Rattle.sf_series.proofs.Dealt.{files_dealt}
 use Rattle.sf_series.proofs.WriteOrder.{order_said}
-use Rattle.sf_series.proofs.Within.{switched_within}
+use Rattle.sf_series.proofs.Within.{not_passed, switched_within}
 use Rattle.sf_series.proofs.Samples.{all_tracks}
 use Rattle.sf_series.proofs.Writables.{samples_append, all_front, each_of, AllSomeFollow, all_follow, tracks_writable}
 
@@ -46,7 +49,7 @@ in_chunks P [] all = tt
 in_chunks P (c ∷ cs) all = let both = samples_split P c.samples (samples_of cs) all in (both.0, in_chunks P cs both.1)
 
 -- a sample isn't empty
-abbrev IsFull : Stored → Type 0
+abbrev pub IsFull : Stored → Type 0
 IsFull s = 0 < length s.bytes
 
 follow_full : (scale : ℕ) (last : Option LastSample) (ss : List Stored) → AllFollow scale last ss → AllByRecursion IsFull ss
@@ -119,7 +122,7 @@ record Known (limits : Limits) (setups : List TrackSetup) (n : ℕ) (file : List
   pub below : AllByRecursion (λ c. c.track < n) file
   pub follow : AllSomeFollow 0 setups file
 
-known_writable : (limits : Limits) (setups : List TrackSetup) (n : ℕ) (file : List Chunk) → length setups ≤ 64 → n ≡ length setups → AllByRecursion IsHoldable setups → Known limits setups n file → Writable setups file
+known_writable : (limits : Limits) (setups : List TrackSetup) (n : ℕ) (file : List Chunk) → length setups ≤ 64 → n ≡ length setups → AllByRecursion IsReadable setups → Known limits setups n file → Writable setups file
 known_writable limits setups n file tracks same fit k = record {
   tracks = tracks;
   filled = k.filled;
@@ -128,7 +131,7 @@ known_writable limits setups n file tracks same fit k = record {
   moov = k.within.movie;
 }
 
-all_writable : (limits : Limits) (setups : List TrackSetup) (n : ℕ) (files : List (List Chunk)) → length setups ≤ 64 → n ≡ length setups → AllByRecursion IsHoldable setups → AllByRecursion (λ file. Within limits setups file) files
+all_writable : (limits : Limits) (setups : List TrackSetup) (n : ℕ) (files : List (List Chunk)) → length setups ≤ 64 → n ≡ length setups → AllByRecursion IsReadable setups → AllByRecursion (λ file. Within limits setups file) files
     → AllByRecursion (λ file. AllByRecursion (λ c. 0 < length c.samples) file) files → AllByRecursion (λ file. AllByRecursion (λ c. c.track < n) file) files
     → AllByRecursion (λ file. AllSomeFollow 0 setups file) files → AllByRecursion (λ file. Writable setups file) files
 all_writable limits setups n [] tracks same fit within filled below follow = tt
@@ -136,6 +139,14 @@ all_writable limits setups n (file ∷ files) tracks same fit within filled belo
   known_writable limits setups n file tracks same fit (record { within = within.0; filled = filled.0; below = below.0; follow = follow.0 }),
   all_writable limits setups n files tracks same fit within.1 filled.1 below.1 follow.1,
 )
+
+-- tracks with which a file can begin, where an empty one doesn't have too many bytes
+pub setups_fits : (limits : Limits) (setups : List TrackSetup) → AreSetups setups → AllByRecursion IsReadable setups → passes limits.max_bytes (closed_length setups []) ≡ false → Holdable setups [] → Fits limits setups
+setups_fits limits setups are readable under empty = record {
+  few = are.few;
+  each = readable;
+  empty = record { bytes = λ some. not_passed limits.max_bytes (closed_length setups []) under some; movie = empty.box; counts = λ t. omega arith };
+}
 
 -- each file of a series of proper chunks passes no limit
 pub files_within : (limits : Limits) (setups : List TrackSetup) (state : State) → Kept limits setups state → Within limits setups [] → AllByRecursion (λ file. Within limits setups file) state.files
@@ -150,7 +161,7 @@ files_writable limits setups state kept fits proper =
     (all_follow 0 setups state.files state.pending state.handed kept.there proper.lists)
 
 -- the samples of a track's chunks in each file, one file after the other
-samples_each : (t : ℕ) (files : List (List Chunk)) → flat_map (track_samples t) files ≡ samples_of (chunks_of_track t files)
+pub samples_each : (t : ℕ) (files : List (List Chunk)) → flat_map (track_samples t) files ≡ samples_of (chunks_of_track t files)
 samples_each t [] = refl
 samples_each t (file ∷ files) =
     ap (λ (ss : List Stored). track_samples t file ++ ss) (samples_each t files)
@@ -190,17 +201,27 @@ orders_said setups (file ∷ files) w full below =
     ap (λ (o : List ℕ). o ∷ map (write_order (length setups)) (map (layout setups) files)) (order_said setups file w.0 (all_have file w.0.filled full.0) below.0)
     ∙ ap (λ (os : List (List ℕ)). order_of file ∷ os) (orders_said setups files w.1 full.1 below.1)
 
--- the files' bytes say which chunk stands where
+-- what holds of each file of a series of proper chunks: no sample is empty, and its tracks are known
+pub files_full : (setups : List TrackSetup) (state : State) → AllThere state.files state.pending state.handed → AreProper setups state → AllByRecursion (λ file. AllByRecursion (InChunk IsFull) file) state.files
+files_full setups state there proper =
+    each_of (InChunk IsFull) state.files (in_files (InChunk IsFull) state.files state.pending state.handed there (handed_all IsFull follow_full setups state.handed proper.tracks proper.lists))
+
+pub files_below : (setups : List TrackSetup) (state : State) → AllThere state.files state.pending state.handed → AreProper setups state → AllByRecursion (λ file. AllByRecursion (λ c. c.track < length setups) file) state.files
+files_below setups state there proper =
+    let n : length state.handed ≡ length setups = proper.tracks in
+    let P : ℕ → Type 0 = λ n. AllByRecursion (λ c. c.track < n) (flat state.files) in
+    each_of (λ c. c.track < length setups) state.files (subst P n (tracks_below state.files state.pending state.handed there))
+
+-- the bytes of files say which chunk of lists stands where that begin with the files' chunks
+pub files_say : (setups : List TrackSetup) (files lists : List (List Chunk)) (rest : ℕ → List Chunk) → AllByRecursion (λ file. Writable setups file) files → AllByRecursion (λ file. AllByRecursion (InChunk IsFull) file) files
+    → AllByRecursion (λ file. AllByRecursion (λ c. c.track < length setups) file) files → ((t : ℕ) → list_of lists t ≡ chunks_of_track t files ++ rest t)
+    → dealt (map (write_order (length setups)) (map (layout setups) files)) lists ≡ files
+files_say setups files lists rest w full below begins = ap (λ (os : List (List ℕ)). dealt os lists) (orders_said setups files w full below) ∙ files_dealt files lists rest begins
+
 pub bytes_dealt : (limits : Limits) (setups : List TrackSetup) (state : State) (lists : List (List Chunk)) (rest : ℕ → List Chunk) → Kept limits setups state → Fits limits setups → AreProper setups state
     → ((t : ℕ) → list_of lists t ≡ list_of state.handed t ++ rest t) → dealt (map (write_order (length setups)) (map (layout setups) state.files)) lists ≡ state.files
 bytes_dealt limits setups state lists rest kept fits proper begins =
-    let n : length state.handed ≡ length setups = proper.tracks in
-    let P : ℕ → Type 0 = λ n. AllByRecursion (λ c. c.track < n) (flat state.files) in
-    ap (λ (os : List (List ℕ)). dealt os lists)
-    (orders_said setups state.files (files_writable limits setups state kept fits proper)
-    (each_of (InChunk IsFull) state.files (in_files (InChunk IsFull) state.files state.pending state.handed kept.there (handed_all IsFull follow_full setups state.handed proper.tracks proper.lists)))
-    (each_of (λ c. c.track < length setups) state.files (subst P n (tracks_below state.files state.pending state.handed kept.there))))
-    ∙ files_dealt state.files lists (λ (t : ℕ). list_of state.pending t ++ rest t)
+    files_say setups state.files lists (λ (t : ℕ). list_of state.pending t ++ rest t) (files_writable limits setups state kept fits proper) (files_full setups state kept.there proper) (files_below setups state kept.there proper)
     (λ t. begins t ∙ ap (λ (cs : List Chunk). cs ++ rest t) (sym (kept.there t)) ∙ append_assoc (chunks_of_track t state.files) (list_of state.pending t) (rest t))
 
 none_behind : (xs ys all : List Chunk) → xs ++ ys ≡ all → ys ≡ [] → xs ≡ all

@@ -21,6 +21,7 @@ pub use Rattle.sf_series.proofs.Order.{order_next, order_none, order_is, same_fr
 pub use Rattle.sf_series.proofs.WriteOrder.{order_said}
 pub use Rattle.sf_series.proofs.ReadBack.{files_within, files_writable, files_joined, handed_joined, bytes_dealt, all_written, next_handed}
 pub use Rattle.sf_series.proofs.Proper.{fresh_proper, hand_proper, write_proper}
+pub use Rattle.sf_series.proofs.SeriesBack.{finished_back, stopped_back, broken_back}
 pub use Rattle.sf_series.proofs.Handed.{handed_front, handed_all, handed_tracks}
 
 pub core_there : (limits : Limits) (setups : List TrackSetup) (tracks : ℕ) (steps : List Step) (track : ℕ)
@@ -61,3 +62,5 @@ pub ruleset limit_laws = (switched_within, core_within, put_within)
 pub ruleset read_laws = (files_writable, files_joined, handed_joined, order_said)
 
 pub ruleset earliest_laws = (order_next, order_none, order_is, same_fronts, proper_rises)
+
+pub ruleset series_laws = (finished_back, stopped_back, broken_back)

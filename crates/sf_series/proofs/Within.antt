@@ -23,7 +23,7 @@ none_tests false true c x y z e = cc
 none_tests false false true x y z e = cc
 none_tests false false false x y z e = (refl, refl, refl)
 
-not_passed : (max value : ℕ) → passes max value ≡ false → max ≢ 0 → value ≤ max
+pub not_passed : (max value : ℕ) → passes max value ≡ false → max ≢ 0 → value ≤ max
 not_passed max value e some = grind (arith, nat_tests)
 
 -- what it means that no limit is passed

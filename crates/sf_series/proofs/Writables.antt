@@ -17,7 +17,8 @@ use Rattle.sf_layout.specs.Writable.{WritableTrack, AllWritable}
 use Rattle.sf_interleave.specs.Waiting.{list_of}
 use Rattle.sf_series.specs.Files.{flat, chunks_of_track}
 use Rattle.sf_series.specs.Kept.{AllThere}
-use Rattle.sf_series.specs.Fitting.{IsHoldable, AllProper}
+use Rattle.sf_file.specs.Holdable.{IsReadable}
+use Rattle.sf_series.specs.Fitting.{AllProper}
 use Rattle.sf_series.proofs.Samples.{follow_writable, follow_timed, follow_rise}
 
 pub samples_append : (xs ys : List Chunk) → samples_of (xs ++ ys) ≡ samples_of xs ++ samples_of ys
@@ -62,10 +63,10 @@ follow_files scale t files pending handed there proper =
     (follow_append scale None (samples_of (chunks_of_track t files)) (samples_of (list_of pending t)) all).0
 
 -- what a file holds of a track, in the form that is read back
-track_writable : (setup : TrackSetup) (samples : List Stored) → IsHoldable setup → SomeFollow setup.scale samples → length samples ≤ 16777216 → WritableTrack setup samples
+track_writable : (setup : TrackSetup) (samples : List Stored) → IsReadable setup → SomeFollow setup.scale samples → length samples ≤ 16777216 → WritableTrack setup samples
 track_writable setup samples h follow few = record {
-  scale_some = h.scale_some;
-  scale_fits = h.scale_fits;
+  scale_some = h.ticks;
+  scale_fits = h.rate;
   entry = h.entry;
   each = follow_writable setup.scale follow.0 samples follow.1;
   timed = follow_timed setup.scale follow.0 samples follow.1;
@@ -94,7 +95,7 @@ all_follow number (setup ∷ setups) files pending handed there proper =
     (follow_each setup.scale number None files (follow_files setup.scale number files pending handed there proper.0))
     (all_follow (number + 1) setups files pending handed there proper.1)
 
-pub tracks_writable : (number : ℕ) (setups : List TrackSetup) (file : List Chunk) → AllByRecursion IsHoldable setups → AllSomeFollow number setups file → ((t : ℕ) → length (track_samples t file) ≤ 16777216)
+pub tracks_writable : (number : ℕ) (setups : List TrackSetup) (file : List Chunk) → AllByRecursion IsReadable setups → AllSomeFollow number setups file → ((t : ℕ) → length (track_samples t file) ≤ 16777216)
     → AllWritable number setups file
 tracks_writable number [] file fit follow few = tt
 tracks_writable number (setup ∷ setups) file fit follow few =

@@ -5,17 +5,11 @@ use Rattle.sf_tick.specs.declared.types.Chunk.{Chunk}
 use Rattle.sf_entry.specs.declared.track_setup.TrackSetup.{TrackSetup}
 use Rattle.sf_gather.specs.Accepting.{last_of}
 use Rattle.sf_gather.specs.Proper.{Extends, Proper, Tail, ends_marked, samples_of}
-use Rattle.sf_layout.specs.Writable.{IsReadBack}
+use Rattle.sf_file.specs.Holdable.{IsReadable}
 use Rattle.sf_interleave.specs.Waiting.{list_of}
 use Rattle.sf_series.specs.declared.limits.Limits.{Limits}
 use Rattle.sf_series.specs.Core.{State}
 use Rattle.sf_series.specs.Within.{Within}
-
--- A setup of a track that a file can hold: it has ticks, and its sample entry is read back.
-pub record IsHoldable (setup : TrackSetup) : Type 0 where
-  pub scale_some : 1 ≤ setup.scale
-  pub scale_fits : setup.scale < 2 ^ 32
-  pub entry : IsReadBack setup
 
 -- the lists of chunks of each track, numbered from here on, are proper at the ticks a second of its setup
 abbrev pub AllProper : ℕ → List TrackSetup → List (List Chunk) → Type 0
@@ -43,8 +37,8 @@ pub record AreProper (setups : List TrackSetup) (state : State) : Type 0 where
   pub lists : AllProper 0 setups state.handed
   pub go_on : (track : ℕ) → get_or state.marks track false ≡ false → ends_marked (list_of state.handed track) ≡ false
 
--- What files of these setups hold is read back: there are at most 64 tracks, a file can hold each, and an empty file passes no limit.
+-- What files of these setups hold is read back: there are at most 64 tracks, each is read back, and an empty file passes no limit.
 pub record Fits (limits : Limits) (setups : List TrackSetup) : Type 0 where
   pub few : length setups ≤ 64
-  pub each : AllByRecursion IsHoldable setups
+  pub each : AllByRecursion IsReadable setups
   pub empty : Within limits setups []

@@ -6,3 +6,9 @@ pub mod Within
 pub mod Fitting
 pub mod Order
 pub mod Dealt
+pub mod Names
+pub mod Shelved
+pub mod Series
+pub mod Ending
+pub mod ReadBack
+pub mod inner

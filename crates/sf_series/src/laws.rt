@@ -5,22 +5,31 @@ ghost use Rattle.std.specs.List.{AllByRecursion};
 ghost use Rattle.sf_tick.specs.declared.types.Chunk.{Chunk};
 ghost use Rattle.sf_entry.specs.declared.track_setup.TrackSetup.{TrackSetup};
 ghost use Rattle.sf_meaning.specs.Joined.{joined};
-ghost use Rattle.sf_meaning.specs.Layout.{held_as};
+ghost use Rattle.sf_meaning.specs.Rows.{held_as};
 ghost use Rattle.sf_layout.specs.Layout.{layout, samples_of};
 ghost use Rattle.sf_layout.specs.Writable.{Writable};
 ghost use Rattle.sf_interleave.specs.Waiting.{OfTheirTracks, earliest_front, list_of, without_front};
 ghost use Rattle.sf_series.specs.declared.limits.Limits.{Limits};
 ghost use Rattle.sf_series.specs.declared.limits.LimitShown.{LimitShown};
 ghost use Rattle.sf_series.specs.Files.{chunks_of_track, flat, into_next, into_open, OnlyOpenEmpty};
-ghost use Rattle.sf_series.specs.Switching.{Into, Limit, Next, Put, Shows, count_of, files_after, put, switched};
+ghost use Rattle.sf_series.specs.Switching.{Into, Limit, Next, Put, Shows, closed_length, count_of, files_after, passes, put, switched};
 ghost use Rattle.sf_series.specs.Core.{State, after, failed, fresh, hand, handed_in, write};
 ghost use Rattle.sf_series.specs.Core as core;
+ghost use Rattle.sf_series.specs.Ending.{Broken, Finished, Stopped, written};
+ghost use Rattle.sf_series.specs.ReadBack.{Begin, ReadToFault, ReadToLimit, WholeReadBack};
+ghost use Rattle.sf_series.specs.declared.report.Report.{Report};
+ghost use Rattle.sf_file.specs.Holdable.{IsReadable};
+ghost use Rattle.sf_file.specs.Open.{AreSetups};
 ghost use Rattle.sf_series.specs.Kept.{Kept};
+ghost use Rattle.sf_series.specs.Series.{CanTake, OpenSeries, Stands};
+ghost use Rattle.sf_world.specs.Views.{ShelfView};
 ghost use Rattle.sf_series.specs.Within.{Within};
 ghost use Rattle.sf_series.specs.Order.{InOrder, Rises, in_order};
 ghost use Rattle.sf_gather.specs.Proper.{Proper};
 ghost use Rattle.sf_series.specs.Fitting.{AreProper, CanHand, Fits};
 ghost use Rattle.sf_series.specs.Dealt.{HasBytes, dealt, order_of, write_order};
+
+use sf_file::no_chunks;
 
 /// A law: whatever is handed and written, in whatever order, for each track the chunks in files and then those that wait
 /// are those that were handed. While nothing ended these are all chunks of the steps but for empty ones, else a front of
@@ -140,4 +149,45 @@ pub fn files_are_read_back()
         → ((track : ℕ) → list_of lists track ≡ list_of state.handed track ++ rest track) → dealt (map (write_order (length setups)) (map (layout setups) state.files)) lists ≡ state.files }
     ensures order { (setups : List TrackSetup) (file : List Chunk) → Writable setups file → AllByRecursion HasBytes file → AllByRecursion (λ c. c.track < length setups) file
         → write_order (length setups) (layout setups file) ≡ order_of file }
+{}
+
+/// A law: what several writes keep of a state, unless a limit ends them. Where none waits after them, all that was handed
+/// stands in files.
+#[tactic(auto, using(crate::proofs::WrittenOut::written_laws))]
+pub fn several_writes_keep()
+    ensures kept { (count : ℕ) (limits : Limits) (setups : List TrackSetup) (state : State) → Kept limits setups state → Kept limits setups (written count limits setups state) }
+    ensures proper { (count : ℕ) (limits : Limits) (setups : List TrackSetup) (state : State) → AreProper setups state → AreProper setups (written count limits setups state) }
+    ensures handed { (count : ℕ) (limits : Limits) (setups : List TrackSetup) (state : State) → (written count limits setups state).handed ≡ state.handed }
+    ensures all { (count : ℕ) (limits : Limits) (setups : List TrackSetup) (state : State) (track : ℕ) → Kept limits setups state → earliest_front (written count limits setups state).pending ≡ None
+        → chunks_of_track track (written count limits setups state).files ≡ list_of state.handed track }
+{}
+
+/// A law: a chunk that the core can be handed, in a state for which a series stands, can be handed to the series.
+#[tactic(auto, using(crate::proofs::Standing::takes))]
+pub fn series_takes_chunks()
+    ensures { (begun shelf : ShelfView) (state : State) (series : OpenSeries) (chunk : Chunk) → Stands begun state series shelf → CanHand series.files.setups state chunk → CanTake series chunk }
+{}
+
+/// A law: files of tracks with which a file can begin, and that are read back, are read back, where an empty one doesn't
+/// have too many bytes.
+pub fn setups_fit()
+    ensures { (limits : Limits) (setups : List TrackSetup) → AreSetups setups → AllByRecursion IsReadable setups → passes limits.max_bytes (closed_length setups []) ≡ false → Fits limits setups }
+{
+    no_chunks();
+}
+
+/// The law of a series over a shelf that tells its files. What was handed of each track, proper by its setup, is read back
+/// from the files that the shelf gained: whole where the series was finished, up to the chunk that met a limit, or up to a
+/// file that failed. Their bytes tell which chunk of lists, with which what was handed begins, stands in which file.
+#[tactic(auto, using(crate::proofs::SeriesLaws::series_laws))]
+pub fn series_is_read_back()
+    ensures done { (begun shelf : ShelfView) (before : List (List ℕ)) (series : OpenSeries) (state : State) (lists : List (List Chunk)) (report : Report)
+        → Kept series.files.limits series.files.setups state → Fits series.files.limits series.files.setups → AreProper series.files.setups state → Begin state.handed lists
+        → begun.files ≡ Some before → Finished begun series state report shelf → WholeReadBack begun before series state.handed lists report shelf }
+    ensures limit { (begun shelf : ShelfView) (before : List (List ℕ)) (series : OpenSeries) (state : State) (lists : List (List Chunk)) (shown : LimitShown) (report : Report)
+        → Kept series.files.limits series.files.setups state → Fits series.files.limits series.files.setups → AreProper series.files.setups state → Begin state.handed lists
+        → begun.files ≡ Some before → Stopped begun series state shown report shelf → ReadToLimit begun before series lists shown report shelf }
+    ensures broken { (begun shelf : ShelfView) (before : List (List ℕ)) (series : OpenSeries) (state : State) (lists : List (List Chunk)) (report : Report)
+        → Kept series.files.limits series.files.setups state → Fits series.files.limits series.files.setups → AreProper series.files.setups state → Begin state.handed lists
+        → begun.files ≡ Some before → Broken begun series state report shelf → ReadToFault begun before series lists report shelf }
 {}

@@ -1,0 +1,335 @@
+ghost use Rattle.std.specs.Prelude.{◌≡◌, ◌+◌, ◌*◌, ◌^◌, ◌<◌, ◌≤◌, length, sum_by, IsTrue, IfSome};
+ghost use Rattle.std.specs.List.{AllByRecursion};
+ghost use Rattle.sf_gather.specs.Accepting.{is_offset};
+ghost use Rattle.sf_gather.specs.Proper.{AllFollow, Extends, Follows, IsChunk};
+ghost use Rattle.sf_file.specs.Open.{AreSetups};
+ghost use Rattle.sf_series.specs.Series.{AreLimits, CanTake};
+
+use super::*;
+use crate::tails::HandedTail;
+use sf_entry::TrackSetup;
+use sf_gather::LastSample;
+use sf_list::{Bytes, Text};
+use sf_meaning::{PlainMovie, plain_file};
+use sf_tick::{Chunk, Kind, Samples, Stored, to_tick};
+use sf_world::{MemShelf, Shelf, SureShelf};
+use std::alloc::{AllocError, Global};
+use std::test::Fail;
+
+mod failures;
+mod names;
+mod several;
+mod sizes;
+
+/// The sample entry box of AAC at 48000 Hz with two channels: 87 bytes (ISO/IEC 14496-12, 12.2.3;
+/// ISO/IEC 14496-14, 5.6).
+const ENTRY: [u8; 87] = *b"\0\0\0\x57mp4a\0\0\0\0\0\0\0\x01\0\0\0\0\0\0\0\0\
+    \0\x02\0\x10\0\0\0\0\xBB\x80\0\0\
+    \0\0\0\x33esds\0\0\0\0\x03\x80\x80\x80\x22\0\0\0\
+    \x04\x80\x80\x80\x14\x40\x15\0\0\0\0\0\0\0\0\0\0\0\
+    \x05\x80\x80\x80\x02\x11\x90\x06\x80\x80\x80\x01\x02";
+
+/// The bytes of each sample.
+const SAMPLE: [u8; 4] = [0x21, 0x10, 0x04, 0x60];
+
+/// Why a series of the tests didn't go on.
+#[derive(Clone, Copy, Debug, PartialEq, Eq)]
+enum Stop {
+    /// A chunk, the setups or the limits don't fit.
+    Unfit,
+    Fault(SeriesFault),
+}
+
+impl From<AllocError> for Stop {
+    fn from(_: AllocError) -> Stop {
+        Stop::Fault(SeriesFault::NoMemory)
+    }
+}
+
+/// A track of sound at 48000 ticks a second.
+fn sound(alloc: Global) -> Result<TrackSetup, AllocError> {
+    Ok(TrackSetup {
+        kind: Kind::Aac,
+        scale: 48_000,
+        width: 0,
+        height: 0,
+        entry: Bytes::from_slice(alloc, &ENTRY)?,
+    })
+}
+
+/// So many tracks of sound.
+fn sounds(alloc: Global, count: u32) -> Result<Vec<TrackSetup>, AllocError> {
+    let mut setups = Vec::new(alloc);
+    for _ in 0..count {
+        setups.push(sound(alloc)?)?;
+    }
+    Ok(setups)
+}
+
+/// Limits of bytes, of a duration in microseconds and of files.
+fn limits(
+    alloc: Global,
+    max_bytes: u64,
+    max_duration_us: u64,
+    max_files: u32,
+) -> Result<Limits, AllocError> {
+    Ok(Limits {
+        max_bytes,
+        max_duration_us,
+        max_files,
+        stem: Text::from_str(alloc, "out")?,
+    })
+}
+
+/// A chunk of a track with its number, of sync samples that are decoded at these microseconds.
+fn chunk(alloc: Global, track: u32, number: u64, times: &[u64]) -> Result<Chunk, AllocError> {
+    let mut samples = Samples::new(alloc);
+    for dts_us in times {
+        let decode = to_tick(*dts_us % (1 << 48), 48_000);
+        samples.push(Stored {
+            dts_us: *dts_us,
+            decode,
+            compose: decode,
+            sync: true,
+            bytes: Bytes::from_slice(alloc, &SAMPLE)?,
+        })?;
+    }
+    Ok(Chunk {
+        track,
+        number,
+        first_us: times.first().copied().unwrap_or(0),
+        samples,
+        last: false,
+    })
+}
+
+/// Whether a sample is not before the last one, and near enough.
+fn is_after(last: Option<LastSample>, sample: &Stored) -> bool
+    ensures rises { IsTrue result → IfSome last (λ l. l.dts_us ≤ sample.now.dts_us) }
+    ensures near { IsTrue result → IfSome last (λ l. sample.now.decode < l.decode + 2 ^ 32) }
+{
+    match last {
+        Some(last) => {
+            last.dts_us <= sample.dts_us && sample.decode.saturating_sub(last.decode) < 1 << 32
+        }
+        None => true,
+    }
+}
+
+/// Whether a composition offset is a signed number of 32 bits.
+fn is_offset(decode: u64, compose: u64) -> bool
+    ensures { result ≡ is_offset decode compose }
+{
+    compose.saturating_sub(decode) < 1 << 31 && decode.saturating_sub(compose) <= 1 << 31
+}
+
+/// Whether a sample can stand after the last one.
+fn follows(scale: u32, last: Option<LastSample>, sample: &Stored) -> bool
+    requires { 1 ≤ scale }
+    ensures { IsTrue result → Follows scale last sample.now }
+{
+    sample.dts_us <= 1 << 48
+        && is_after(last, sample)
+        && sample.decode == to_tick(sample.dts_us, scale)
+        && is_offset(sample.decode, sample.compose)
+        && sample.compose <= to_tick(1 << 48, scale)
+        && !sample.bytes.is_empty()
+        && sample.bytes.len() <= 1 << 25
+}
+
+/// Whether all samples can stand after the last one, one after the other.
+fn all_follow(scale: u32, last: Option<LastSample>, samples: &[Stored]) -> bool
+    requires { 1 ≤ scale }
+    ensures { IsTrue result → AllFollow scale last samples.now }
+{
+    let [first, others @ ..] = samples else {
+        return true;
+    };
+    let kept = LastSample {
+        dts_us: first.dts_us,
+        decode: first.decode,
+    };
+    follows(scale, last, first) && all_follow(scale, Some(kept), others)
+}
+
+/// Whether a chunk goes on from a tail.
+fn goes_on(scale: u32, tail: &HandedTail, chunk: &Chunk) -> bool
+    requires { 1 ≤ scale }
+    ensures { IsTrue result → Extends chunk.now.track scale tail.now chunk.now }
+{
+    let number_fits = match tail.number {
+        Some(number) => number < u64::MAX && chunk.number == number + 1,
+        None => chunk.number == 0,
+    };
+    let first_us = match chunk.samples.as_slice().first() {
+        Some(sample) => sample.dts_us,
+        None => 0,
+    };
+    !tail.ended
+        && number_fits
+        && chunk.first_us == first_us
+        && (chunk.last || !chunk.samples.is_empty())
+        && chunk.samples.len() <= 4_194_304
+        && all_follow(scale, tail.last, chunk.samples.as_slice())
+}
+
+/// Whether a chunk can be handed.
+fn can_take<O: Shelf>(series: &Series<O>, chunk: &Chunk) -> bool
+    ensures { IsTrue result → CanTake series.now chunk.now }
+{
+    let track = chunk.track as usize;
+    match (series.files.setups.get(track), series.tails.get(track)) {
+        (Some(setup), Some(tail)) => setup.scale > 0 && goes_on(setup.scale, tail, chunk),
+        _ => false,
+    }
+}
+
+/// Whether each setup has ticks and a short sample entry.
+fn all_usable(setups: &[TrackSetup]) -> bool
+    ensures ticks { IsTrue result → AllByRecursion (λ s. 1 ≤ s.scale) setups.now }
+    ensures entries { IsTrue result → sum_by (λ s. length s.entry) setups.now ≤ 2 ^ 20 * length setups.now }
+{
+    let [first, others @ ..] = setups else {
+        return true;
+    };
+    first.scale > 0 && first.entry.len() <= 1 << 20 && all_usable(others)
+}
+
+/// Whether a file can begin with these setups.
+fn are_setups(setups: &[TrackSetup]) -> bool
+    ensures { IsTrue result → AreSetups setups.now }
+{
+    !setups.is_empty() && setups.len() <= 64 && all_usable(setups)
+}
+
+/// Whether limits are within their ranges.
+fn are_limits(limits: &Limits) -> bool
+    ensures { IsTrue result → AreLimits limits.now }
+{
+    limits.max_bytes <= 1 << 62
+        && limits.max_duration_us <= 1 << 48
+        && limits.max_files >= 1
+        && limits.max_files <= 99_999
+}
+
+/// Starts a series of so many tracks of sound.
+fn start<O: Shelf>(
+    alloc: Global,
+    tracks: u32,
+    limits: Limits,
+    shelf: &mut O,
+) -> Result<Series<O>, Stop> {
+    let setups = sounds(alloc, tracks)?;
+    if !are_setups(&setups) || !are_limits(&limits) {
+        return Err(Stop::Unfit);
+    }
+    match Series::start(alloc, setups, limits, shelf) {
+        Ok(series) => Ok(series),
+        Err(fault) => Err(Stop::Fault(fault)),
+    }
+}
+
+/// Hands a chunk.
+fn hand<O: Shelf>(series: &mut Series<O>, chunk: Chunk) -> Result<(), Stop> {
+    if series.fault.is_none() && !can_take(series, &chunk) {
+        return Err(Stop::Unfit);
+    }
+    match series.hand(chunk) {
+        Ok(()) => Ok(()),
+        Err(_) => Err(Stop::Fault(SeriesFault::NoMemory)),
+    }
+}
+
+/// Writes the chunk that is next.
+fn write<O: Shelf>(series: &mut Series<O>, shelf: &mut O) -> Result<Wrote, Stop> {
+    if series.fault.is_some() {
+        return Err(Stop::Unfit);
+    }
+    match series.write_one(shelf) {
+        Ok(wrote) => Ok(wrote),
+        Err(fault) => Err(Stop::Fault(fault)),
+    }
+}
+
+/// The chunks of one track of sound, each with its first sample's microseconds.
+const SINGLE: [&[u64]; 3] = [&[0], &[21_333], &[42_667]];
+
+/// One chunk of the same samples.
+const TOGETHER: [&[u64]; 1] = [&[0, 21_333, 42_667]];
+
+/// Records chunks of one track of sound.
+fn record<O: Shelf>(
+    alloc: Global,
+    chunks: &[&[u64]],
+    limits: Limits,
+    shelf: &mut O,
+) -> Result<(Report, Result<(), SeriesFault>), Stop> {
+    let mut series = start(alloc, 1, limits, shelf)?;
+    for (number, times) in chunks.iter().enumerate() {
+        hand(&mut series, chunk(alloc, 0, number as u64, times)?)?;
+    }
+    Ok(series.finish(shelf))
+}
+
+/// A shelf in memory.
+trait KeptFiles {
+    /// The file of a number, from 0 on, if it was kept.
+    fn kept(&self, number: u32) -> Option<&[u8]>;
+}
+
+impl KeptFiles for SureShelf {
+    fn kept(&self, number: u32) -> Option<&[u8]> {
+        self.file(number)
+    }
+}
+
+impl KeptFiles for MemShelf {
+    fn kept(&self, number: u32) -> Option<&[u8]> {
+        self.file(number)
+    }
+}
+
+/// The lengths of the files that a shelf keeps.
+fn lengths<K: KeptFiles>(alloc: Global, shelf: &K) -> Result<Vec<usize>, AllocError> {
+    let mut lengths = Vec::new(alloc);
+    for number in 0..9 {
+        if let Some(file) = shelf.kept(number) {
+            lengths.push(file.len())?;
+        }
+    }
+    Ok(lengths)
+}
+
+/// What a track of a movie is: its lead in microseconds, and the places of its samples.
+type Shown<'a> = (u64, &'a [u64]);
+
+/// Whether a movie starts at this many microseconds and its tracks are these.
+fn is_movie(movie: &PlainMovie, start_us: u64, tracks: &[Shown<'_>]) -> bool {
+    let same = movie.tracks.as_slice().iter().zip(tracks).all(|(track, (lead, places))| {
+        track.lead == *lead
+            && track
+                .samples
+                .as_slice()
+                .iter()
+                .map(|sample| sample.place)
+                .eq(places.iter().copied())
+    });
+    movie.start_us == start_us && movie.tracks.len() == tracks.len() && same
+}
+
+/// Whether a file of the shelf is a movie that starts at this many microseconds with these tracks.
+fn reads_as<K: KeptFiles>(
+    alloc: Global,
+    shelf: &K,
+    file: u32,
+    start_us: u64,
+    tracks: &[Shown<'_>],
+) -> bool {
+    let Some(bytes) = shelf.kept(file) else {
+        return false;
+    };
+    match plain_file(alloc, bytes) {
+        Ok(movie) => is_movie(&movie, start_us, tracks),
+        Err(_) => false,
+    }
+}
