@@ -10,9 +10,9 @@ use crate::tails::HandedTail;
 use sf_entry::TrackSetup;
 use sf_gather::LastSample;
 use sf_list::{Bytes, Text};
-use sf_meaning::{PlainMovie, plain_file};
+use sf_meaning::{PlainMovie, PlainTrack, plain_file};
 use sf_tick::{Chunk, Kind, Samples, Stored, to_tick};
-use sf_world::{MemShelf, Shelf, SureShelf};
+use sf_world::{MemShelf, Shelf};
 use std::alloc::{AllocError, Global};
 use std::test::Fail;
 
@@ -66,17 +66,15 @@ fn sounds(alloc: Global, count: u32) -> Result<Vec<TrackSetup>, AllocError> {
     Ok(setups)
 }
 
-/// Limits of bytes, of a duration in microseconds and of files.
-fn limits(
-    alloc: Global,
-    max_bytes: u64,
-    max_duration_us: u64,
-    max_files: u32,
-) -> Result<Limits, AllocError> {
+/// The most bytes of a file, how long it goes on in microseconds, each 0 for no such limit, and the most files.
+type Most = (u64, u64, u32);
+
+/// Limits of the series.
+fn limits(alloc: Global, most: Most) -> Result<Limits, AllocError> {
     Ok(Limits {
-        max_bytes,
-        max_duration_us,
-        max_files,
+        max_bytes: most.0,
+        max_duration_us: most.1,
+        max_files: most.2,
         stem: Text::from_str(alloc, "out")?,
     })
 }
@@ -216,10 +214,11 @@ fn are_limits(limits: &Limits) -> bool
 fn start<O: Shelf>(
     alloc: Global,
     tracks: u32,
-    limits: Limits,
+    most: Most,
     shelf: &mut O,
 ) -> Result<Series<O>, Stop> {
     let setups = sounds(alloc, tracks)?;
+    let limits = limits(alloc, most)?;
     if !are_setups(&setups) || !are_limits(&limits) {
         return Err(Stop::Unfit);
     }
@@ -227,6 +226,11 @@ fn start<O: Shelf>(
         Ok(series) => Ok(series),
         Err(fault) => Err(Stop::Fault(fault)),
     }
+}
+
+/// Why a series of one track isn't started.
+fn not_started<O: Shelf>(alloc: Global, most: Most, shelf: &mut O) -> Option<Stop> {
+    start(alloc, 1, most, shelf).err()
 }
 
 /// Hands a chunk.
@@ -257,75 +261,107 @@ const SINGLE: [&[u64]; 3] = [&[0], &[21_333], &[42_667]];
 /// One chunk of the same samples.
 const TOGETHER: [&[u64]; 1] = [&[0, 21_333, 42_667]];
 
+/// Hands chunks of one track of sound, the first one with this number.
+fn hand_all<O: Shelf>(
+    alloc: Global,
+    series: &mut Series<O>,
+    first: u64,
+    chunks: &[&[u64]],
+) -> Result<(), Stop> {
+    let mut number = first;
+    for times in chunks {
+        hand(series, chunk(alloc, 0, number, times)?)?;
+        number = number.wrapping_add(1);
+    }
+    Ok(())
+}
+
 /// Records chunks of one track of sound.
 fn record<O: Shelf>(
     alloc: Global,
     chunks: &[&[u64]],
-    limits: Limits,
+    most: Most,
     shelf: &mut O,
 ) -> Result<(Report, Result<(), SeriesFault>), Stop> {
-    let mut series = start(alloc, 1, limits, shelf)?;
-    for (number, times) in chunks.iter().enumerate() {
-        hand(&mut series, chunk(alloc, 0, number as u64, times)?)?;
-    }
+    let mut series = start(alloc, 1, most, shelf)?;
+    hand_all(alloc, &mut series, 0, chunks)?;
     Ok(series.finish(shelf))
 }
 
-/// A shelf in memory.
-trait KeptFiles {
-    /// The file of a number, from 0 on, if it was kept.
-    fn kept(&self, number: u32) -> Option<&[u8]>;
+/// An empty shelf, no call of which fails.
+fn sure_shelf(alloc: Global) -> MemShelf {
+    MemShelf::new(alloc, Vec::new(alloc))
 }
 
-impl KeptFiles for SureShelf {
-    fn kept(&self, number: u32) -> Option<&[u8]> {
-        self.file(number)
+/// A shelf on which chunks of one track of sound are recorded.
+fn recorded(alloc: Global, chunks: &[&[u64]], most: Most) -> Result<MemShelf, Stop> {
+    let mut shelf = sure_shelf(alloc);
+    match record(alloc, chunks, most, &mut shelf)?.1 {
+        Ok(()) => Ok(shelf),
+        Err(fault) => Err(Stop::Fault(fault)),
     }
 }
 
-impl KeptFiles for MemShelf {
-    fn kept(&self, number: u32) -> Option<&[u8]> {
-        self.file(number)
+/// The length of a file that a shelf keeps, if it was kept.
+fn length_of(shelf: &MemShelf, number: u32) -> Option<u64> {
+    match shelf.file(number) {
+        Some(file) => Some(file.len() as u64),
+        None => None,
     }
 }
 
-/// The lengths of the files that a shelf keeps.
-fn lengths<K: KeptFiles>(alloc: Global, shelf: &K) -> Result<Vec<usize>, AllocError> {
-    let mut lengths = Vec::new(alloc);
-    for number in 0..9 {
-        if let Some(file) = shelf.kept(number) {
-            lengths.push(file.len())?;
+/// Whether a shelf keeps files of these lengths, at most eight, and no more.
+fn keeps(shelf: &MemShelf, lengths: &[u64]) -> bool {
+    let mut same = lengths.len() <= 8;
+    for number in 0..9u32 {
+        same = same && length_of(shelf, number) == lengths.get(number as usize).copied();
+    }
+    same
+}
+
+/// How many files a shelf keeps, of the first nine.
+fn kept(shelf: &MemShelf) -> u32 {
+    let mut count = 0;
+    for number in 0..9u32 {
+        if shelf.file(number).is_some() {
+            count = number + 1;
         }
     }
-    Ok(lengths)
+    count
 }
 
 /// What a track of a movie is: its lead in microseconds, and the places of its samples.
 type Shown<'a> = (u64, &'a [u64]);
 
+/// Whether a track of a movie is this one.
+fn is_track(track: &PlainTrack, shown: &Shown<'_>) -> bool {
+    let samples = track.samples.as_slice();
+    let mut same = track.lead == shown.0 && samples.len() == shown.1.len();
+    for (sample, place) in samples.iter().zip(shown.1) {
+        same = same && sample.place == *place;
+    }
+    same
+}
+
 /// Whether a movie starts at this many microseconds and its tracks are these.
 fn is_movie(movie: &PlainMovie, start_us: u64, tracks: &[Shown<'_>]) -> bool {
-    let same = movie.tracks.as_slice().iter().zip(tracks).all(|(track, (lead, places))| {
-        track.lead == *lead
-            && track
-                .samples
-                .as_slice()
-                .iter()
-                .map(|sample| sample.place)
-                .eq(places.iter().copied())
-    });
-    movie.start_us == start_us && movie.tracks.len() == tracks.len() && same
+    let found = movie.tracks.as_slice();
+    let mut same = movie.start_us == start_us && found.len() == tracks.len();
+    for (track, shown) in found.iter().zip(tracks) {
+        same = same && is_track(track, shown);
+    }
+    same
 }
 
 /// Whether a file of the shelf is a movie that starts at this many microseconds with these tracks.
-fn reads_as<K: KeptFiles>(
+fn reads_as(
     alloc: Global,
-    shelf: &K,
+    shelf: &MemShelf,
     file: u32,
     start_us: u64,
     tracks: &[Shown<'_>],
 ) -> bool {
-    let Some(bytes) = shelf.kept(file) else {
+    let Some(bytes) = shelf.file(file) else {
         return false;
     };
     match plain_file(alloc, bytes) {

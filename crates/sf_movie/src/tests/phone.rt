@@ -1,166 +1,93 @@
-//! A movie as a phone writes it, built box by box.
+//! A movie as a phone writes it.
 
 use super::*;
 
-/// The entry of AVC video of 64 by 48, as formats.
-fn avc1(alloc: Global) -> Result<Bytes, AllocError> {
-    let mut body = Bytes::from_slice(
-        alloc,
-        b"\0\0\0\0\0\0\0\x01\0\0\0\0\0\0\0\0\0\0\0\0\0\0\0\0\0\x40\0\x30",
-    )?;
-    body.append(
-        b"\0\x48\0\0\0\x48\0\0\0\0\0\0\0\x01\0\0\0\0\0\0\0\0\0\0\0\0\0\0\0\0\0\0\0\0\0\0\0\0\0\0\0\0\0\0\0\0\0\x18\xff\xff",
-    )?;
-    let config = b"\x01\x42\0\x1e\xff\xe1\0\x05\x67\x42\0\x1e\xf0\x01\0\x04\x68\xce\x38\x80";
-    let avcc = boxes(alloc, &[(b"avcC", config)])?;
-    body.append(avcc.as_slice())?;
-    boxes(alloc, &[(b"avc1", body.as_slice())])
-}
+/// The type, free space for a movie box that was too long for it, and the head of the media data, whose 104070 bytes
+/// begin at 140.
+const FRONT: &[u8] = b"\
+    \0\0\0\x18ftypisom\0\0\0\0isom3gp4\
+    \0\0\0\x6cfree\
+    \0\0\0\0\0\0\0\0\0\0\0\0\0\0\0\0\0\0\0\0\0\0\0\0\0\0\0\0\0\0\0\0\0\0\0\0\0\0\0\0\0\0\0\0\0\0\0\0\0\0\
+    \0\0\0\0\0\0\0\0\0\0\0\0\0\0\0\0\0\0\0\0\0\0\0\0\0\0\0\0\0\0\0\0\0\0\0\0\0\0\0\0\0\0\0\0\0\0\0\0\0\0\
+    \0\x01\x96\x8emdat\
+    ";
 
-/// What a track of a movie says of its samples: of `count` samples of `size` bytes each, which stand one after the
-/// other from a place on, each decoded `delta` ticks after the one before.
-#[derive(Clone, Copy)]
-struct Uniform {
-    scale: u32,
-    delta: u32,
-    size: u32,
-    count: u32,
-    place: u32,
-}
+/// User data, 1000 ticks a second, and two tracks (ISO/IEC 14496-12, 8.3 to 8.7): 900 samples of AVC video of 64 by 48,
+/// of 100 bytes each and 3000 ticks apart, of which one in 30 is sync; and 1407 samples of AAC, of 10 bytes each and
+/// 1024 ticks apart, which stand from 90140 on.
+const MOOV: &[u8] = b"\
+    \0\0\x03\xf1moov\
+    \0\0\0\x2cmvhd\0\0\0\0\0\0\0\0\0\0\0\0\0\0\x03\xe8\0\0\x75\x40\0\x01\0\0\x01\0\0\0\0\0\0\0\0\0\0\0\
+    \0\0\0\x14udta\0\0\0\x0c\xa9xyz+48.\
+    \0\0\x02\x26trak\
+    \0\0\0\x5ctkhd\0\0\0\0\0\0\0\0\0\0\0\0\0\0\0\0\0\0\0\0\0\0\0\0\0\0\0\0\0\0\0\0\0\0\0\0\0\0\0\0\
+    \0\0\0\0\0\0\0\0\0\0\0\0\0\0\0\0\0\0\0\0\0\0\0\0\0\0\0\0\0\0\0\0\0\0\0\0\0\0\0\0\0\0\0\0\
+    \0\0\x01\xc2mdia\
+    \0\0\0\x20mdhd\0\0\0\0\0\0\0\0\0\0\0\0\0\x01\x5f\x90\0\x29\x32\xe0\0\0\0\0\
+    \0\0\x01\x9aminf\
+    \0\0\0\x24dinf\
+    \0\0\0\x1cdref\0\0\0\0\0\0\0\x01\0\0\0\x0curl \0\0\0\x01\
+    \0\0\x01\x6estbl\
+    \0\0\0\x82stsd\0\0\0\0\0\0\0\x01\
+    \0\0\0\x72avc1\0\0\0\0\0\0\0\x01\0\0\0\0\0\0\0\0\0\0\0\0\0\0\0\0\0\x40\0\x30\
+    \0\x48\0\0\0\x48\0\0\0\0\0\0\0\x01\0\0\0\0\0\0\0\0\0\0\0\0\0\0\0\0\0\0\0\0\0\0\0\0\0\0\0\0\0\0\0\0\0\x18\xff\xff\
+    \0\0\0\x1cavcC\x01\x42\0\x1e\xff\xe1\0\x05\x67\x42\0\x1e\xf0\x01\0\x04\x68\xce\x38\x80\
+    \0\0\0\x18stts\0\0\0\0\0\0\0\x01\0\0\x03\x84\0\0\x0b\xb8\
+    \0\0\0\x88stss\0\0\0\0\0\0\0\x1e\
+    \0\0\0\x01\0\0\0\x1f\0\0\0\x3d\0\0\0\x5b\0\0\0\x79\0\0\0\x97\0\0\0\xb5\0\0\0\xd3\0\0\0\xf1\0\0\x01\x0f\
+    \0\0\x01\x2d\0\0\x01\x4b\0\0\x01\x69\0\0\x01\x87\0\0\x01\xa5\0\0\x01\xc3\0\0\x01\xe1\0\0\x01\xff\0\0\x02\x1d\0\0\x02\x3b\
+    \0\0\x02\x59\0\0\x02\x77\0\0\x02\x95\0\0\x02\xb3\0\0\x02\xd1\0\0\x02\xef\0\0\x03\x0d\0\0\x03\x2b\0\0\x03\x49\0\0\x03\x67\
+    \0\0\0\x14stsz\0\0\0\0\0\0\0\x64\0\0\x03\x84\
+    \0\0\0\x1cstsc\0\0\0\0\0\0\0\x01\0\0\0\x01\0\0\x03\x84\0\0\0\x01\
+    \0\0\0\x14stco\0\0\0\0\0\0\0\x01\0\0\0\x8c\
+    \0\0\x01\x83trak\
+    \0\0\0\x5ctkhd\0\0\0\0\0\0\0\0\0\0\0\0\0\0\0\0\0\0\0\0\0\0\0\0\0\0\0\0\0\0\0\0\0\0\0\0\0\0\0\0\
+    \0\0\0\0\0\0\0\0\0\0\0\0\0\0\0\0\0\0\0\0\0\0\0\0\0\0\0\0\0\0\0\0\0\0\0\0\0\0\0\0\0\0\0\0\
+    \0\0\x01\x1fmdia\
+    \0\0\0\x20mdhd\0\0\0\0\0\0\0\0\0\0\0\0\0\0\xbb\x80\0\x15\xfc\0\0\0\0\0\
+    \0\0\0\xf7minf\
+    \0\0\0\x24dinf\
+    \0\0\0\x1cdref\0\0\0\0\0\0\0\x01\0\0\0\x0curl \0\0\0\x01\
+    \0\0\0\xcbstbl\
+    \0\0\0\x67stsd\0\0\0\0\0\0\0\x01\
+    \0\0\0\x57mp4a\0\0\0\0\0\0\0\x01\0\0\0\0\0\0\0\0\0\x02\0\x10\0\0\0\0\xbb\x80\0\0\
+    \0\0\0\x33esds\0\0\0\0\
+    \x03\x80\x80\x80\x22\0\0\0\
+    \x04\x80\x80\x80\x14\x40\x15\0\0\0\0\0\0\0\0\0\0\0\
+    \x05\x80\x80\x80\x02\x11\x90\x06\x80\x80\x80\x01\x02\
+    \0\0\0\x18stts\0\0\0\0\0\0\0\x01\0\0\x05\x7f\0\0\x04\0\
+    \0\0\0\x14stsz\0\0\0\0\0\0\0\x0a\0\0\x05\x7f\
+    \0\0\0\x1cstsc\0\0\0\0\0\0\0\x01\0\0\0\x01\0\0\x05\x7f\0\0\0\x01\
+    \0\0\0\x14stco\0\0\0\0\0\0\0\x01\0\x01\x60\x1c\
+    ";
 
-/// The track box of samples with this entry and these sync samples (8.3 to 8.7).
-fn trak(alloc: Global, of: Uniform, entry: &[u8], syncs: &[u32]) -> Result<Bytes, AllocError> {
-    let mdhd = words(
-        alloc,
-        &[0, 0, 0, of.scale, of.count.wrapping_mul(of.delta), 0],
-    )?;
-    let stsd = stsd(alloc, entry)?;
-    let stts = words(alloc, &[0, 1, of.count, of.delta])?;
-    let stsz = words(alloc, &[0, of.size, of.count])?;
-    let stsc = words(alloc, &[0, 1, 1, of.count, 1])?;
-    let stco = words(alloc, &[0, 1, of.place])?;
-    let mut stbl = boxes(
-        alloc,
-        &[(b"stsd", stsd.as_slice()), (b"stts", stts.as_slice())],
-    )?;
-    if let [_, ..] = syncs {
-        let count = u32::try_from(syncs.len()).map_err(|_| AllocError)?;
-        let mut stss = words(alloc, &[0, count])?;
-        let numbers = words(alloc, syncs)?;
-        stss.append(numbers.as_slice())?;
-        let stss = boxes(alloc, &[(b"stss", stss.as_slice())])?;
-        stbl.append(stss.as_slice())?;
+/// A sample that isn't sync, with the first entry, composed when it is decoded.
+fn not_sync(decode: u32, place: u64, size: u32) -> PlainSample {
+    PlainSample {
+        sync: false,
+        ..sync(decode, place, size)
     }
-    let rest = boxes(
-        alloc,
-        &[
-            (b"stsz", stsz.as_slice()),
-            (b"stsc", stsc.as_slice()),
-            (b"stco", stco.as_slice()),
-        ],
-    )?;
-    stbl.append(rest.as_slice())?;
-    let dinf = boxes(
-        alloc,
-        &[(b"dref", b"\0\0\0\0\0\0\0\x01\0\0\0\x0curl \0\0\0\x01")],
-    )?;
-    let minf = boxes(
-        alloc,
-        &[(b"dinf", dinf.as_slice()), (b"stbl", stbl.as_slice())],
-    )?;
-    let mdia = boxes(
-        alloc,
-        &[(b"mdhd", mdhd.as_slice()), (b"minf", minf.as_slice())],
-    )?;
-    let body = boxes(
-        alloc,
-        &[(b"tkhd", [0; 84].as_slice()), (b"mdia", mdia.as_slice())],
-    )?;
-    boxes(alloc, &[(b"trak", body.as_slice())])
 }
 
-// The layout of a phone's recorder: the type, free space for a movie box that was too long for it, the media data
-// with a size of four bytes, and last the movie box with user data, 1000 ticks a second, and a track of video of
-// which one sample in 30 is sync. The samples stand from 140 on.
 #[test]
 fn a_movie_of_a_phone_is_loaded(rt: HostRuntime) -> Result<(), Fail> {
-    let alloc = rt.alloc();
-    let video = Uniform {
-        scale: 90_000,
-        delta: 3000,
-        size: 100,
-        count: 900,
-        place: 140,
-    };
-    let sound = Uniform {
-        scale: 48_000,
-        delta: 1024,
-        size: 10,
-        count: 1407,
-        place: 90_140,
-    };
-    let mut syncs = Vec::new(alloc);
-    for group in 0..30u32 {
-        syncs.push(group * 30 + 1)?;
-    }
-    let entry = avc1(alloc)?;
-    let picture = trak(alloc, video, entry.as_slice(), &syncs)?;
-    let heard = trak(alloc, sound, &FILE[437..524], &[])?;
-    let mvhd = words(alloc, &[0, 0, 0, 1000, 30_016, 0x1_0000, 0x100_0000, 0, 0])?;
-    let mut moov = boxes(
-        alloc,
-        &[
-            (b"mvhd", mvhd.as_slice()),
-            (b"udta", b"\0\0\0\x0c\xa9xyz+48."),
-        ],
-    )?;
-    moov.append(picture.as_slice())?;
-    moov.append(heard.as_slice())?;
-    let payload = vec![in alloc; 7u8; 90_000 + 14_070]?;
-    let file = boxes(
-        alloc,
-        &[
-            (b"ftyp", b"isom\0\0\0\0isom3gp4"),
-            (b"free", [0; 100].as_slice()),
-            (b"mdat", payload.as_slice()),
-            (b"moov", moov.as_slice()),
-        ],
-    )?;
-    let mut source = source_of(alloc, file.as_slice(), Vec::new(alloc))?;
-    let movie = Movie::load(alloc, &mut source).ok().ok_or("not loaded")?;
-    assert_eq!(rt; movie.track_count(), 2);
-    assert_eq!(rt; movie.start_us(), 0);
-    assert_eq!(rt; track_at(&movie, 0), Some((TrackKind::Avc, 90_000, 900, 0)));
-    assert_eq!(rt;
-        track_at(&movie, 1),
-        Some((TrackKind::Aac, 48_000, 1407, 0))
-    );
-    assert_eq!(rt; width_at(&movie, 0, 1), Some(Some(4)));
-    assert_eq!(rt; width_at(&movie, 0, 2), Some(None));
-    // 3000 ticks are 33333 microseconds and a third; 1024 are 21333 and a third.
-    let rows: [(u32, u64, u32, bool, u64, u32, i64); 6] = [
-        (0, 0, 0, true, 140, 100, 0),
-        (0, 31, 93_000, false, 3240, 100, 1_033_333),
-        (0, 60, 180_000, true, 6140, 100, 2_000_000),
-        (0, 899, 2_697_000, false, 90_040, 100, 29_966_666),
-        (1, 0, 0, true, 90_140, 10, 0),
-        (1, 1406, 1_439_744, true, 104_200, 10, 29_994_666),
+    let tracks = [
+        (TrackKind::Avc, 90_000, 900, 0),
+        (TrackKind::Aac, 48_000, 1407, 0),
     ];
-    for (t, i, decode, sync, place, size, us) in rows {
-        let wanted = PlainSample {
-            decode: u64::from(decode),
-            compose: i64::from(decode),
-            sync,
-            place,
-            size,
-            description: 1,
-        };
-        assert_eq!(rt;
-            sample_at(&movie, t, i),
-            Some((wanted, us)),
-            "sample {i} of {t}"
-        );
-    }
-    assert_eq!(rt; sample_at(&movie, 0, 900), None);
+    // 3000 ticks are 33333 microseconds and a third; 1024 are 21333 and a third.
+    let samples = [
+        (0, 0, sync(0, 140, 100), 0),
+        (0, 31, not_sync(93_000, 3240, 100), 1_033_333),
+        (0, 60, sync(180_000, 6140, 100), 2_000_000),
+        (0, 899, not_sync(2_697_000, 90_040, 100), 29_966_666),
+        (1, 0, sync(0, 90_140, 10), 0),
+        (1, 1406, sync(1_439_744, 104_200, 10), 29_994_666),
+    ];
+    let mut source = hole_source(rt.alloc(), &[FRONT], 140 + 104_070, MOOV)?;
+    let movie = loaded(rt.alloc(), &mut source)?;
+    assert!(rt; has_tracks(&movie, &tracks));
+    assert!(rt; has_samples(&movie, &samples));
+    assert_eq!(rt; widths_at(&movie, 0), Some([None, Some(4), None]));
     Ok(())
 }

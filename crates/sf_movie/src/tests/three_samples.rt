@@ -3,43 +3,31 @@
 use super::*;
 use sf_box::BoxFault;
 
-/// A sync sample of four bytes with the first entry, composed when it is decoded.
-fn sample(decode: u32, place: u64) -> PlainSample {
-    PlainSample {
-        decode: u64::from(decode),
-        compose: i64::from(decode),
-        sync: true,
-        place,
-        size: 4,
-        description: 1,
-    }
-}
-
 // 1024 ticks at 48000 Hz are 21333 microseconds and a third, and 2048 are 42666 and two thirds.
 #[test]
 fn the_movie_of_three_samples_is_loaded(rt: HostRuntime) -> Result<(), Fail> {
-    let mut source = source_of(rt.alloc(), &FILE, Vec::new(rt.alloc()))?;
-    let movie = Movie::load(rt.alloc(), &mut source)
-        .ok()
-        .ok_or("not loaded")?;
-    assert_eq!(rt; source.count(), 0);
-    assert_eq!(rt; movie.track_count(), 1);
-    assert_eq!(rt; movie.start_us(), 0);
-    assert_eq!(rt; track_at(&movie, 0), Some((TrackKind::Aac, 48_000, 3, 0)));
-    assert_eq!(rt; track_at(&movie, 1), None);
-    assert_eq!(rt; width_at(&movie, 0, 0), Some(None));
-    assert_eq!(rt; width_at(&movie, 0, 1), Some(None));
-    assert_eq!(rt; width_at(&movie, 0, 2), Some(None));
-    let wanted = [
-        Some((sample(0, 40), 0)),
-        Some((sample(1024, 44), 21_333)),
-        Some((sample(2048, 48), 42_666)),
-        None,
+    let samples = [
+        (0, 0, sync(0, 40, 4), 0),
+        (0, 1, sync(1024, 44, 4), 21_333),
+        (0, 2, sync(2048, 48, 4), 42_666),
     ];
-    for (i, wanted) in (0..4u64).zip(wanted) {
-        assert_eq!(rt; sample_at(&movie, 0, i), wanted, "sample {i}");
-    }
+    let mut source = source_of(rt.alloc(), &FILE, &[])?;
+    let movie = loaded(rt.alloc(), &mut source)?;
+    assert!(rt; has_tracks(&movie, &[(TrackKind::Aac, 48_000, 3, 0)]));
+    assert!(rt; has_samples(&movie, &samples));
+    assert_eq!(rt; widths_at(&movie, 0), Some([None, None, None]));
     Ok(())
+}
+
+/// Why the movie of bytes isn't loaded where the read of a number fails, and how many reads failed.
+fn fault_where(alloc: Global, bytes: &[u8], failing: u64) -> (Option<LoadFault>, u64) {
+    match source_of(alloc, bytes, &[failing]) {
+        Ok(mut source) => {
+            let fault = Movie::load(alloc, &mut source).err();
+            (fault, source.count())
+        }
+        Err(_) => (Some(LoadFault::NoMemory), 0),
+    }
 }
 
 /// What is wrong with the first bytes of the file, so many of them: `ftyp` has 24 bytes, the head of `mdat`
@@ -58,88 +46,64 @@ fn fault_at(length: u64) -> MovieFault {
     }
 }
 
-#[test]
-fn a_file_that_is_cut_short_is_refused_at_its_box(rt: HostRuntime) -> Result<(), Fail> {
+/// The first of the lengths to which the file is cut at which something else is told.
+fn first_other_cut(alloc: Global) -> Option<usize> {
     for length in 0..640usize {
-        let mut source = source_of(rt.alloc(), &FILE[..length], Vec::new(rt.alloc()))?;
-        let fault = Movie::load(rt.alloc(), &mut source).err();
-        let wanted = LoadFault::Refused(fault_at(length as u64));
-        assert_eq!(rt; fault, Some(wanted), "at {length}");
+        let (fault, _) = fault_where(alloc, &FILE[..length], u64::MAX);
+        if fault != refused(fault_at(length as u64)) {
+            return Some(length);
+        }
     }
-    Ok(())
+    None
+}
+
+#[test]
+fn a_file_that_is_cut_short_is_refused_at_its_box(rt: HostRuntime) {
+    assert_eq!(rt; first_other_cut(rt.alloc()), None);
+}
+
+/// How many reads of the file fail, each with its fault told, until none fails.
+fn failing_reads(alloc: Global) -> Option<u64> {
+    for failing in 0..9u64 {
+        match fault_where(alloc, &FILE, failing) {
+            (None, 0) => return Some(failing),
+            (Some(LoadFault::ReadFault), 1) => {}
+            _ => return None,
+        }
+    }
+    None
 }
 
 // The heads of the three boxes and the body of the movie box are read, each by one call.
 #[test]
-fn each_read_that_fails_is_told(rt: HostRuntime) -> Result<(), Fail> {
-    let alloc = rt.alloc();
-    for failing in 0..5u64 {
-        let mut source = source_of(alloc, &FILE, vec![in alloc; failing]?)?;
-        let fault = Movie::load(alloc, &mut source).err();
-        let (wanted, count) = if failing < 4 {
-            (Some(LoadFault::ReadFault), 1)
-        } else {
-            (None, 0)
-        };
-        assert_eq!(rt; fault, wanted, "read {failing}");
-        assert_eq!(rt; source.count(), count, "read {failing}");
-    }
-    Ok(())
+fn each_read_that_fails_is_told(rt: HostRuntime) {
+    assert_eq!(rt; failing_reads(rt.alloc()), Some(4));
 }
 
 // A read that fails after the place of a fault isn't made, and one before it stands in its place.
 #[test]
-fn a_fault_comes_before_later_reads(rt: HostRuntime) -> Result<(), Fail> {
-    let rows = [
-        (2, LoadFault::Refused(MovieFault::NoMoov { at: 52 })),
-        (1, LoadFault::ReadFault),
-    ];
-    let alloc = rt.alloc();
-    for (failing, wanted) in rows {
-        let mut source = source_of(alloc, &FILE[..52], vec![in alloc; failing]?)?;
-        let fault = Movie::load(alloc, &mut source).err();
-        assert_eq!(rt; fault, Some(wanted), "read {failing}");
-    }
-    Ok(())
+fn a_fault_comes_before_later_reads(rt: HostRuntime) {
+    let no_moov = MovieFault::NoMoov { at: 52 };
+    let later = fault_where(rt.alloc(), &FILE[..52], 2);
+    let earlier = fault_where(rt.alloc(), &FILE[..52], 1);
+    assert_eq!(rt; later, (refused(no_moov), 0));
+    assert_eq!(rt; earlier, (Some(LoadFault::ReadFault), 1));
+}
+
+/// That a sample of the first track lies outside of the file.
+fn outside(sample: u64) -> Option<LoadFault> {
+    refused(MovieFault::SampleOutside { track: 0, sample })
 }
 
 // The samples end at 52. The place of the chunk stands in the last four bytes of `stco`, at 612, and the
 // size of each sample at 560.
 #[test]
-fn samples_outside_of_the_file_are_refused(rt: HostRuntime) -> Result<(), Fail> {
+fn samples_outside_of_the_file_are_refused(rt: HostRuntime) {
     // The last two of three samples end at 641 or later where the chunk begins at 633.
-    let rows: [(usize, &[u8], MovieFault); 3] = [
-        (
-            612,
-            b"\0\0\x02\x79",
-            MovieFault::SampleOutside {
-                track: 0,
-                sample: 1,
-            },
-        ),
-        (
-            612,
-            b"\xff\xff\xff\xff",
-            MovieFault::SampleOutside {
-                track: 0,
-                sample: 0,
-            },
-        ),
-        (
-            560,
-            b"\0\0\x02\x59",
-            MovieFault::SampleOutside {
-                track: 0,
-                sample: 0,
-            },
-        ),
-    ];
-    for (at, bytes, fault) in rows {
-        let mut file = Bytes::from_slice(rt.alloc(), &FILE)?;
-        file.patch(at, bytes);
-        let mut source = source_of(rt.alloc(), file.as_slice(), Vec::new(rt.alloc()))?;
-        let found = Movie::load(rt.alloc(), &mut source).err();
-        assert_eq!(rt; found, Some(LoadFault::Refused(fault)), "at {at}");
-    }
-    Ok(())
+    assert_eq!(rt; fault_with(rt.alloc(), 612, b"\0\0\x02\x79"), outside(1));
+    assert_eq!(rt;
+        fault_with(rt.alloc(), 612, b"\xff\xff\xff\xff"),
+        outside(0)
+    );
+    assert_eq!(rt; fault_with(rt.alloc(), 560, b"\0\0\x02\x59"), outside(0));
 }

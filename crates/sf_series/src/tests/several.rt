@@ -7,11 +7,46 @@ use super::*;
 enum Step {
     /// A chunk of a track with its number is handed, of one sample that is decoded at these microseconds.
     Hand(u32, u64, u64),
+    /// An empty last chunk of a track with its number is handed.
+    End(u32, u64),
+    /// Such a chunk of one sample can't be handed.
+    Unfit(u32, u64, u64),
     /// A chunk is written, and this is answered.
     Write(Wrote),
 }
 
-/// Takes the steps of a series: whether each write answered as it is to.
+/// An empty last chunk of a track with its number.
+fn last_chunk(alloc: Global, track: u32, number: u64) -> Result<Chunk, AllocError> {
+    let mut last = chunk(alloc, track, number, &[])?;
+    last.last = true;
+    Ok(last)
+}
+
+/// Takes a step of a series: whether it answers as it is to.
+fn take_step<O: Shelf>(
+    alloc: Global,
+    series: &mut Series<O>,
+    step: Step,
+    shelf: &mut O,
+) -> Result<bool, Stop> {
+    match step {
+        Step::Hand(track, number, at_us) => {
+            let chunk = chunk(alloc, track, number, &[at_us])?;
+            Ok(hand(series, chunk) == Ok(()))
+        }
+        Step::End(track, number) => {
+            let chunk = last_chunk(alloc, track, number)?;
+            Ok(hand(series, chunk) == Ok(()))
+        }
+        Step::Unfit(track, number, at_us) => {
+            let chunk = chunk(alloc, track, number, &[at_us])?;
+            Ok(hand(series, chunk) == Err(Stop::Unfit))
+        }
+        Step::Write(wrote) => Ok(write(series, shelf) == Ok(wrote)),
+    }
+}
+
+/// Takes the steps of a series: whether each answers as it is to.
 fn take_steps<O: Shelf>(
     alloc: Global,
     series: &mut Series<O>,
@@ -19,50 +54,33 @@ fn take_steps<O: Shelf>(
     shelf: &mut O,
 ) -> Result<bool, Stop> {
     for step in steps {
-        match step {
-            Step::Hand(track, number, at_us) => {
-                hand(series, chunk(alloc, *track, *number, &[*at_us])?)?;
-            }
-            Step::Write(wrote) => {
-                if write(series, shelf)? != *wrote {
-                    return Ok(false);
-                }
-            }
+        if !take_step(alloc, series, *step, shelf)? {
+            return Ok(false);
         }
     }
     Ok(true)
 }
 
-/// Takes the steps of a series of two tracks of sound, and finishes it: how many samples of each track stand in files.
-fn record_steps(
+/// Takes the steps of a series of two tracks of sound, and finishes it: whether each step answers as it is to, and so many
+/// samples of each track stand in files.
+fn steps_leave<O: Shelf>(
     alloc: Global,
-    limits: Limits,
+    most: Most,
     steps: &[Step],
-    shelf: &mut SureShelf,
-) -> Result<Option<(u64, u64)>, Stop> {
-    let mut series = start(alloc, 2, limits, shelf)?;
+    shelf: &mut O,
+    samples: [u64; 2],
+) -> Result<bool, Stop> {
+    let mut series = start(alloc, 2, most, shelf)?;
     if !take_steps(alloc, &mut series, steps, shelf)? {
-        return Ok(None);
+        return Ok(false);
     }
     let (report, ended) = series.finish(shelf);
-    match ended {
-        Ok(()) => Ok(counts(&report)),
-        Err(fault) => Err(Stop::Fault(fault)),
-    }
-}
-
-/// How many samples a report of two tracks tells of each.
-fn counts(report: &Report) -> Option<(u64, u64)> {
-    match report.tracks.as_slice() {
-        [first, second] => Some((*first, *second)),
-        _ => None,
-    }
+    Ok(ended == Ok(()) && report.tracks.as_slice() == samples.as_slice())
 }
 
 #[test]
-fn a_later_chunk_may_stand_first(rt: HostRuntime) -> Result<(), Fail> {
+fn a_later_chunk_may_stand_first(rt: HostRuntime) {
     let alloc = rt.alloc();
-    let mut shelf = SureShelf::new(alloc);
     let steps = [
         Step::Write(Wrote::Idle),
         Step::Hand(0, 0, 1_000_000),
@@ -71,16 +89,15 @@ fn a_later_chunk_may_stand_first(rt: HostRuntime) -> Result<(), Fail> {
         Step::Write(Wrote::OneChunk(1)),
         Step::Write(Wrote::Idle),
     ];
-    let counts = record_steps(alloc, limits(alloc, 0, 0, 1)?, &steps, &mut shelf)?;
-    assert_eq!(rt; counts, Some((1, 1)));
+    let mut shelf = sure_shelf(alloc);
+    let left = steps_leave(alloc, (0, 0, 1), &steps, &mut shelf, [1, 1]);
+    assert_eq!(rt; left, Ok(true));
     assert!(rt; reads_as(alloc, &shelf, 0, 0, &[(1_000_000, &[40]), (0, &[44])]));
-    Ok(())
 }
 
 #[test]
-fn chunks_that_begin_at_once_are_written_by_their_tracks(rt: HostRuntime) -> Result<(), Fail> {
+fn chunks_that_begin_at_once_are_written_by_their_tracks(rt: HostRuntime) {
     let alloc = rt.alloc();
-    let mut shelf = SureShelf::new(alloc);
     let steps = [
         Step::Hand(1, 0, 0),
         Step::Hand(0, 0, 0),
@@ -88,47 +105,37 @@ fn chunks_that_begin_at_once_are_written_by_their_tracks(rt: HostRuntime) -> Res
         Step::Write(Wrote::OneChunk(1)),
         Step::Write(Wrote::Idle),
     ];
-    let counts = record_steps(alloc, limits(alloc, 0, 0, 1)?, &steps, &mut shelf)?;
-    assert_eq!(rt; counts, Some((1, 1)));
-    Ok(())
+    let mut shelf = sure_shelf(alloc);
+    let left = steps_leave(alloc, (0, 0, 1), &steps, &mut shelf, [1, 1]);
+    assert_eq!(rt; left, Ok(true));
 }
 
 #[test]
-fn the_next_file_begins_with_the_first_track(rt: HostRuntime) -> Result<(), Fail> {
+fn the_next_file_begins_with_the_first_track(rt: HostRuntime) {
     let alloc = rt.alloc();
-    let mut shelf = SureShelf::new(alloc);
     let steps = [
         Step::Hand(0, 0, 0),
         Step::Hand(0, 1, 1_000_000),
         Step::Hand(1, 0, 1_500_000),
     ];
-    let counts = record_steps(alloc, limits(alloc, 0, 1_000_000, 2)?, &steps, &mut shelf)?;
-    assert_eq!(rt; counts, Some((2, 1)));
+    let mut shelf = sure_shelf(alloc);
+    let left = steps_leave(alloc, (0, 1_000_000, 2), &steps, &mut shelf, [2, 1]);
+    assert_eq!(rt; left, Ok(true));
     assert!(rt; reads_as(alloc, &shelf, 0, 0, &[(0, &[40]), (0, &[])]));
     assert!(rt; reads_as(alloc, &shelf, 1, 1_000_000, &[(0, &[40]), (500_000, &[44])]));
-    Ok(())
-}
-
-/// Hands a chunk, then an empty last one, and then one more: whether the last of them can't be handed, and what is written.
-fn hand_after_last(alloc: Global, shelf: &mut SureShelf) -> Result<(bool, Wrote, Wrote), Stop> {
-    let mut series = start(alloc, 1, limits(alloc, 0, 0, 1)?, shelf)?;
-    hand(&mut series, chunk(alloc, 0, 0, &[0])?)?;
-    let mut last = chunk(alloc, 0, 1, &[])?;
-    last.last = true;
-    hand(&mut series, last)?;
-    let refused = hand(&mut series, chunk(alloc, 0, 1, &[21_333])?) == Err(Stop::Unfit);
-    Ok((
-        refused,
-        write(&mut series, shelf)?,
-        write(&mut series, shelf)?,
-    ))
 }
 
 #[test]
-fn an_empty_last_chunk_only_ends_its_track(rt: HostRuntime) -> Result<(), Fail> {
+fn an_empty_last_chunk_only_ends_its_track(rt: HostRuntime) {
     let alloc = rt.alloc();
-    let mut shelf = SureShelf::new(alloc);
-    let answers = hand_after_last(alloc, &mut shelf)?;
-    assert_eq!(rt; answers, (true, Wrote::OneChunk(0), Wrote::Idle));
-    Ok(())
+    let steps = [
+        Step::Hand(0, 0, 0),
+        Step::End(0, 1),
+        Step::Unfit(0, 1, 21_333),
+        Step::Write(Wrote::OneChunk(0)),
+        Step::Write(Wrote::Idle),
+    ];
+    let mut shelf = sure_shelf(alloc);
+    let left = steps_leave(alloc, (0, 0, 1), &steps, &mut shelf, [1, 0]);
+    assert_eq!(rt; left, Ok(true));
 }

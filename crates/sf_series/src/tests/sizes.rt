@@ -3,96 +3,74 @@
 
 use super::*;
 
-/// What is recorded: its chunks, the most bytes, the most files, why it ended, and the files' lengths.
-type Recorded<'a> = (
-    &'a [&'a [u64]],
-    u64,
-    u32,
-    Result<(), SeriesFault>,
-    &'a [usize],
-);
+/// Whether a recording ends so, with this many samples in files of these lengths, which are told too.
+fn leaves(
+    alloc: Global,
+    chunks: &[&[u64]],
+    most: Most,
+    ended: Result<(), SeriesFault>,
+    samples: u64,
+    files: &[u64],
+) -> Result<bool, Stop> {
+    let mut shelf = sure_shelf(alloc);
+    let (report, answer) = record(alloc, chunks, most, &mut shelf)?;
+    Ok(
+        answer == ended
+            && report.tracks.as_slice() == [samples].as_slice()
+            && report.files.as_slice() == files
+            && keeps(&shelf, files),
+    )
+}
 
-#[test]
-fn files_are_as_long_as_they_may_be(rt: HostRuntime) -> Result<(), Fail> {
-    let alloc = rt.alloc();
-    let over = SeriesFault::Limit(LimitShown::Size {
+/// That a chunk that begins with a sample would make a file too long.
+fn over(sample: u64, would_be: u64, max: u64) -> Result<(), SeriesFault> {
+    Err(SeriesFault::Limit(LimitShown::Size {
         track: 0,
-        sample: 2,
-        would_be: 648,
-        max: 647,
-    });
-    let over_at_once = SeriesFault::Limit(LimitShown::Size {
-        track: 0,
-        sample: 0,
-        would_be: 640,
-        max: 639,
-    });
-    let recorded: [Recorded<'_>; 6] = [
-        (&TOGETHER, 0, 1, Ok(()), &[640]),
-        (&SINGLE, 648, 1, Ok(()), &[648]),
-        (&SINGLE, 647, 1, Err(over), &[640]),
-        (&SINGLE, 647, 2, Ok(()), &[632, 640]),
-        (&TOGETHER, 639, 1, Err(over_at_once), &[604]),
-        (&[], 604, 1, Ok(()), &[604]),
-    ];
-    for (chunks, max_bytes, max_files, ended, files) in recorded {
-        let mut shelf = SureShelf::new(alloc);
-        let limits = limits(alloc, max_bytes, 0, max_files)?;
-        let (report, answer) = record(alloc, chunks, limits, &mut shelf)?;
-        assert_eq!(rt; answer, ended, "at {max_bytes}");
-        assert_eq!(rt; lengths(alloc, &shelf)?.as_slice(), files, "at {max_bytes}");
-        let told = report
-            .files
-            .as_slice()
-            .iter()
-            .map(|length| *length as usize);
-        assert!(rt; told.eq(files.iter().copied()), "at {max_bytes}");
-    }
-    Ok(())
+        sample,
+        would_be,
+        max,
+    }))
 }
 
 #[test]
-fn no_file_is_made_where_an_empty_one_is_too_long(rt: HostRuntime) -> Result<(), Fail> {
+fn files_are_as_long_as_they_may_be(rt: HostRuntime) {
     let alloc = rt.alloc();
-    let mut shelf = SureShelf::new(alloc);
-    let limits = limits(alloc, 603, 0, 1)?;
-    let stop = match start(alloc, 1, limits, &mut shelf) {
-        Ok(_) => None,
-        Err(stop) => Some(stop),
-    };
+    let together = leaves(alloc, &TOGETHER, (0, 0, 1), Ok(()), 3, &[640]);
+    let in_one = leaves(alloc, &SINGLE, (648, 0, 1), Ok(()), 3, &[648]);
+    let in_two = leaves(alloc, &SINGLE, (647, 0, 2), Ok(()), 3, &[632, 640]);
+    let empty = leaves(alloc, &[], (604, 0, 1), Ok(()), 0, &[604]);
+    assert_eq!(rt; together, Ok(true));
+    assert_eq!(rt; in_one, Ok(true));
+    assert_eq!(rt; in_two, Ok(true));
+    assert_eq!(rt; empty, Ok(true));
+}
+
+#[test]
+fn a_chunk_that_makes_a_file_too_long_ends_the_series(rt: HostRuntime) {
+    let alloc = rt.alloc();
+    let later = leaves(alloc, &SINGLE, (647, 0, 1), over(2, 648, 647), 2, &[640]);
+    let at_once = leaves(alloc, &TOGETHER, (639, 0, 1), over(0, 640, 639), 0, &[604]);
+    assert_eq!(rt; later, Ok(true));
+    assert_eq!(rt; at_once, Ok(true));
+}
+
+#[test]
+fn no_file_is_made_where_an_empty_one_is_too_long(rt: HostRuntime) {
     let nothing = LimitShown::Nothing {
         would_be: 604,
         max: 603,
     };
+    let mut shelf = sure_shelf(rt.alloc());
+    let stop = not_started(rt.alloc(), (603, 0, 1), &mut shelf);
     assert_eq!(rt; stop, Some(Stop::Fault(SeriesFault::Limit(nothing))));
-    assert!(rt; shelf.file(0).is_none());
-    Ok(())
-}
-
-#[test]
-fn samples_in_files_are_counted(rt: HostRuntime) -> Result<(), Fail> {
-    let alloc = rt.alloc();
-    let mut shelf = SureShelf::new(alloc);
-    let limits = limits(alloc, 647, 0, 1)?;
-    let (report, _) = record(alloc, &SINGLE, limits, &mut shelf)?;
-    assert_eq!(rt; report.tracks.as_slice(), [2u64].as_slice());
-    Ok(())
+    assert_eq!(rt; kept(&shelf), 0);
 }
 
 // The second chunk begins a second after the first file's start.
 #[test]
-fn a_file_goes_on_for_so_long(rt: HostRuntime) -> Result<(), Fail> {
+fn a_file_goes_on_for_so_long(rt: HostRuntime) {
     let alloc = rt.alloc();
     let chunks: [&[u64]; 3] = [&[0], &[999_999], &[1_000_000]];
-    let mut shelf = SureShelf::new(alloc);
-    let two = limits(alloc, 0, 1_000_000, 2)?;
-    let (report, ended) = record(alloc, &chunks, two, &mut shelf)?;
-    assert_eq!(rt; ended, Ok(()));
-    assert_eq!(rt; report.tracks.as_slice(), [3u64].as_slice());
-    assert_eq!(rt; lengths(alloc, &shelf)?.len(), 2);
-    let mut shelf = SureShelf::new(alloc);
-    let one = limits(alloc, 0, 1_000_000, 1)?;
-    let (_, ended) = record(alloc, &chunks, one, &mut shelf)?;
     let long = LimitShown::Duration {
         track: 0,
         sample: 2,
@@ -100,21 +78,18 @@ fn a_file_goes_on_for_so_long(rt: HostRuntime) -> Result<(), Fail> {
         file_start_us: 0,
         max_us: 1_000_000,
     };
-    assert_eq!(rt; ended, Err(SeriesFault::Limit(long)));
-    assert_eq!(rt; lengths(alloc, &shelf)?.len(), 1);
-    Ok(())
+    let ended = Err(SeriesFault::Limit(long));
+    let two = leaves(alloc, &chunks, (0, 1_000_000, 2), Ok(()), 3, &[640, 632]);
+    let one = leaves(alloc, &chunks, (0, 1_000_000, 1), ended, 2, &[640]);
+    assert_eq!(rt; two, Ok(true));
+    assert_eq!(rt; one, Ok(true));
 }
 
 // Times in the second file count from its own start, which is told from the start of the series on.
 #[test]
 fn the_next_file_starts_with_its_first_sample(rt: HostRuntime) -> Result<(), Fail> {
-    let alloc = rt.alloc();
-    let mut shelf = SureShelf::new(alloc);
-    let limits = limits(alloc, 647, 0, 2)?;
-    let (report, ended) = record(alloc, &SINGLE, limits, &mut shelf)?;
-    assert_eq!(rt; ended, Ok(()));
-    assert_eq!(rt; report.tracks.as_slice(), [3u64].as_slice());
-    assert!(rt; reads_as(alloc, &shelf, 0, 0, &[(0, &[40])]));
-    assert!(rt; reads_as(alloc, &shelf, 1, 21_333, &[(0, &[40, 44])]));
+    let shelf = recorded(rt.alloc(), &SINGLE, (647, 0, 2))?;
+    assert!(rt; reads_as(rt.alloc(), &shelf, 0, 0, &[(0, &[40])]));
+    assert!(rt; reads_as(rt.alloc(), &shelf, 1, 21_333, &[(0, &[40, 44])]));
     Ok(())
 }
