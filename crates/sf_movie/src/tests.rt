@@ -9,6 +9,7 @@ use std::test::Fail;
 mod holes;
 mod hostile;
 mod phone;
+mod plain;
 mod three_samples;
 
 /// A file of three AAC samples of four bytes, 1024 ticks apart: `ftyp` at 0, `mdat` at 24, `moov` at 52.
