@@ -64,7 +64,7 @@ mapped_of_bytes at (Some first) fault of e =
     subst P is of
 
 -- a sample is refused by what its bytes say
-fault_of_bytes : (given : Given) (last : Option LastSample) (found : CodedSample) (fault : TrackFault) → fault_at given last found ≡ Some fault → IsOfBytes fault.why
+pub fault_of_bytes : (given : Given) (last : Option LastSample) (found : CodedSample) (fault : TrackFault) → fault_at given last found ≡ Some fault → IsOfBytes fault.why
 fault_of_bytes given last found fault e = mapped_of_bytes found.at (refusal given last found.sample) fault (refusal_tells given last found.sample) e
 
 says_refused : (contents : Option (List ℕ)) (given : Given) (accepted : List Stored) (setup : Setup) (place : ℕ) (found : CodedSample) (fault : TrackFault)

@@ -8,3 +8,15 @@ pub mod Headers
 pub mod Recordings
 pub mod Staying
 pub mod Errors
+pub mod Handing
+pub mod Deals
+pub mod Opened
+pub mod OfBytes
+pub mod EntryLength
+pub mod Readings
+pub mod Finishing
+pub mod Serials
+pub mod Stopped
+pub mod InTurn
+pub mod Ready
+pub mod Called

@@ -5,3 +5,5 @@ pub mod Said
 pub mod Reading
 pub mod Pumping
 pub mod Recorded
+pub mod Serial
+pub mod Called

@@ -8,6 +8,7 @@ use Rattle.sf_entry.specs.TrackSetup.{made}
 use Rattle.sf_entry.specs.declared.track_setup.SetupFault.{SetupFault}
 use Rattle.sf_entry.specs.declared.track_setup.TrackSetup.{TrackSetup}
 use Rattle.sf_gather.specs.declared.given.Given.{Given}
+use Rattle.sf_gather.specs.declared.given.Options.{Options}
 use Rattle.sf_gather.specs.Chunks.{chunks}
 use Rattle.sf_record.specs.Input.{Taken, coded_fault, given_of, input_of, setup_fault}
 use Rattle.sf_record.specs.Limits.{Put, put_all}
@@ -31,19 +32,27 @@ without_setup fault = record { setup = None; samples = []; fault = fault }
 abbrev pub behind_header : TrackSetup → Taken → Said
 behind_header setup taken = record { setup = Some setup; samples = taken.samples; fault = taken.fault }
 
--- what an input says of whose header this is made
-abbrev pub said_unless : Result TrackSetup SetupFault → List ℕ → Said
-said_unless (Ok setup) bytes = behind_header setup (input_of (given_at setup) bytes)
-said_unless (Err fault) bytes = without_setup (Some (setup_fault fault))
+-- what the input of a track says of whose header this is made
+abbrev pub said_unless : ℕ → Options → Result TrackSetup SetupFault → List ℕ → Said
+said_unless track options (Ok setup) bytes = behind_header setup (input_of (given_of track setup options) bytes)
+said_unless track options (Err fault) bytes = without_setup (Some (setup_fault fault))
 
--- what an input says whose coded file has this header and end
-abbrev pub said_by : Option Setup → Option CodedFault → List ℕ → Said
-said_by None end bytes = without_setup (option_map coded_fault end)
-said_by (Some setup) end bytes = said_unless (made setup) bytes
+-- what the input of a track says whose coded file has this header and end
+abbrev pub said_by : ℕ → Options → Option Setup → Option CodedFault → List ℕ → Said
+said_by track options None end bytes = without_setup (option_map coded_fault end)
+said_by track options (Some setup) end bytes = said_unless track options (made setup) bytes
 
--- what the bytes of an input say
-unfoldable pub said_of : List ℕ → Said
-said_of bytes = said_by (coded bytes).setup (coded bytes).end bytes
+-- What the bytes of the input of a track say, whose samples are put into chunks so.
+unfoldable pub said_in : ℕ → Options → List ℕ → Said
+said_in track options bytes = said_by track options (coded bytes).setup (coded bytes).end bytes
+
+-- how samples are put into chunks where nothing else is asked for: of at most a second, from the start 0 on
+abbrev pub usual : Options
+usual = record { start_us = 0; interleave_us = 1000000 }
+
+-- what the bytes of an input say that is recorded alone
+abbrev pub said_of : List ℕ → Said
+said_of bytes = said_in 0 usual bytes
 
 -- an input says this where its bytes are told
 abbrev pub Says : Option (List ℕ) → Said → Type 0

@@ -3,3 +3,7 @@ pub mod Holding
 pub mod Going
 pub mod Copying
 pub mod Written
+pub mod Dealing
+pub mod Opening
+pub mod Finishing
+pub mod InTurn

@@ -7,13 +7,17 @@
 #![tactic(auto)]
 
 mod copying;
+mod dealing;
 mod faults;
 mod laws;
 mod limits;
+mod opening;
 mod outcome;
 mod pump;
 mod putting;
 mod recording;
+mod serial;
+mod serial_end;
 mod turns;
 mod writing;
 
@@ -23,6 +27,8 @@ pub use limits::LimitShown;
 pub use outcome::{Outcome, RecordEnd, Report};
 pub use pump::{Pump, Stepped};
 pub use recording::record_one;
+pub use serial::record_serial;
+pub use serial_end::{SerialEnd, SerialOutcome};
 
 #[cfg(test)]
 mod tests;

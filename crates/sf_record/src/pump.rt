@@ -74,6 +74,7 @@ impl<S: Source> Pump<S> {
         ensures coded { result.coded ≡ coded }
         ensures gatherer { IsSome result.gatherer }
         ensures chunk { result.chunk ≡ None }
+        ensures fault { result.fault ≡ None }
         ensures stands { Stands coded.source.content [] [] result }
     {
         let given = Given {
@@ -107,6 +108,8 @@ impl<S: Source> Pump<S> {
         ensures less_held { result ≡ Stepped.HasChunk → 2 * left self.old.coded.source.size self.new < turns_left self.old.coded.source.size self.old }
         ensures failed { self.old.fault ≡ None → self.new.fault ≡ Some read_fault
             → Rose self.old.coded.source.faults self.new.coded.source.faults }
+        ensures stays { result ≡ Stepped.Done → self.new ≡ self.old }
+        ensures source_failed { self.new.fault ≡ Some read_fault → (self.old.fault ≡ Some read_fault) ⊎ Rose self.old.coded.source.faults self.new.coded.source.faults }
         ensures given { self.new.given ≡ self.old.given }
         ensures setup { self.new.coded.setup ≡ self.old.coded.setup }
         ensures source { Unchanged self.old.coded.source self.new.coded.source }

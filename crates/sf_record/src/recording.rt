@@ -71,7 +71,7 @@ fn unmade(fault: SetupFault) -> HeaderFault
 }
 
 // A file can hold a track that is made of a setup.
-fn track_is_readable(setup: &Setup, track: &TrackSetup)
+pub(crate) fn track_is_readable(setup: &Setup, track: &TrackSetup)
     requires config { length setup.now.config ≤ 65536 }
     requires made { made setup.now ≡ Ok track.now }
     requires scale { 1 ≤ track.now.scale }

@@ -12,6 +12,7 @@ use std::test::Fail;
 
 mod limits;
 mod recording;
+mod serial;
 mod whole;
 
 // One sync sample: 22 bytes and its payload.

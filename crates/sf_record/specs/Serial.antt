@@ -1,0 +1,185 @@
+-- How the recording of several inputs ends, and what their files hold.
+use Rattle.std.specs.Prelude.{◌≡◌, ℕ, ◌+◌, ◌<◌, ◌≤◌, ◌^◌, ◌⊎◌, false, List, [], ◌∷◌, ◌++◌, length, map, slice_get, Option, Some, None, IfSome, ⊤}
+use Rattle.sf_tick.specs.declared.types.Chunk.{Chunk}
+use Rattle.sf_tick.specs.declared.types.Stored.{Stored}
+use Rattle.sf_world.specs.Counts.{Rose}
+use Rattle.sf_world.specs.Views.{ShelfView, SourceView, Unchanged}
+use Rattle.sf_coded.specs.declared.types.CodedFault.TheVariants.{ReadFault as CodedReadFault}
+use Rattle.sf_entry.specs.declared.track_setup.TrackSetup.{TrackSetup}
+use Rattle.sf_gather.specs.declared.given.Options.{Options}
+use Rattle.sf_gather.specs.Chunks.{chunks}
+use Rattle.sf_series.specs.declared.limits.Limits.{Limits}
+use Rattle.sf_series.specs.declared.limits.LimitShown.{LimitShown}
+use Rattle.sf_series.specs.declared.report.Report.{Report}
+use Rattle.sf_series.specs.Ending.{Reports}
+use Rattle.sf_series.specs.Names.{names_to}
+use Rattle.sf_series.specs.Order.{in_order}
+use Rattle.sf_series.specs.ReadBack.{ReadToLimit, WholeReadBack}
+use Rattle.sf_series.specs.Series.{IsNothing, OpenSeries}
+use Rattle.sf_series.specs.Shelved.{AllKept, with_files}
+use Rattle.sf_series.specs.Switching.{closed_length, passes, switched}
+use Rattle.sf_record.specs.declared.faults.InputFault.{InputFault}
+use Rattle.sf_record.specs.declared.faults.InputFault.TheVariants.{Coded, Setup as SetupRefused, Sample as SampleRefused}
+use Rattle.sf_record.specs.declared.faults.TrackFault.{TrackFault}
+use Rattle.sf_record.specs.declared.serial_end.SerialOutcome.{SerialOutcome}
+use Rattle.sf_record.specs.declared.serial_end.SerialOutcome.TheVariants.{Done, WriteFault, Limit, Refused, ReadFault, NoMemory}
+use Rattle.sf_record.specs.Input.{IsOfBytes, given_of, input_of, read_fault}
+use Rattle.sf_record.specs.Limits.{filled}
+use Rattle.sf_record.specs.Said.{Said, behind_header, said_in, without_setup}
+
+-- Options and limits within their ranges.
+pub record AreOptions (options : Options) : Type 0 where
+  pub start : options.start_us ≤ 2 ^ 48
+  pub interleave : options.interleave_us ≤ 2 ^ 48
+
+-- the answer for a fault of the input of a number: a failed read is told as such
+abbrev pub answer_by : InputFault → ℕ → TrackFault → SerialOutcome
+answer_by (Coded CodedReadFault) number fault = ReadFault number
+answer_by (Coded other) number fault = Refused number fault
+answer_by (SetupRefused other) number fault = Refused number fault
+answer_by (SampleRefused other) number fault = Refused number fault
+
+abbrev pub answer_at : ℕ → TrackFault → SerialOutcome
+answer_at number fault = answer_by fault.why number fault
+
+-- the answer for the lowest fault of inputs, numbered from here on; Done where there is none
+abbrev pub lowest_fault : ℕ → List (Option TrackFault) → SerialOutcome
+lowest_fault number [] = Done
+lowest_fault number (None ∷ faults) = lowest_fault (number + 1) faults
+lowest_fault number (Some fault ∷ faults) = answer_at number fault
+
+-- the input of a track says this, where its bytes are told
+abbrev pub SaysIn : ℕ → Options → Option (List ℕ) → Said → Type 0
+SaysIn track options None said = ⊤
+SaysIn track options (Some bytes) said = said ≡ said_in track options bytes
+
+-- the input of a track has a header of which this setup is made, where its bytes are told
+abbrev pub Opens : ℕ → Options → Option (List ℕ) → TrackSetup → Type 0
+Opens track options None setup = ⊤
+Opens track options (Some bytes) setup = said_in track options bytes ≡ behind_header setup (input_of (given_of track setup options) bytes)
+
+-- The first samples of what an input says were read, and then its source failed.
+pub record FirstOf (said read : Said) : Type 0 where
+  pub setup : read.setup ≡ said.setup
+  pub fault : read.fault ≡ Some read_fault
+  pub rest : List Stored
+  pub samples : said.samples ≡ read.samples ++ rest
+
+-- What was read of the input of a track: all that it says, or, where its source failed in this call, its first samples. The fault after them is the input's own, unless the source failed.
+pub record WasRead (track : ℕ) (options : Options) (before after : SourceView) (read : Said) : Type 0 where
+  pub said : Said
+  pub says : SaysIn track options before.content said
+  pub read_so : (read ≡ said) ⊎ FirstOf said read
+  pub failed : read.fault ≡ Some read_fault → Rose before.faults after.faults
+  pub own : IfSome read.fault (λ f. (f ≡ read_fault) ⊎ IsOfBytes f.why)
+
+-- so was each of several inputs, of tracks that are numbered from here on
+abbrev pub AllRead : ℕ → Options → List SourceView → List SourceView → List Said → Type 0
+AllRead track options [] [] [] = Unit {0}
+AllRead track options (b ∷ before) (a ∷ after) (r ∷ reads) = WasRead track options b a r × AllRead (track + 1) options before after reads
+AllRead track options before after reads = ⊥
+
+-- the chunks with samples of what was read, by the setups of tracks that are numbered from here on
+abbrev pub lists_of : ℕ → Options → List TrackSetup → List Said → List (List Chunk)
+lists_of track options [] reads = []
+lists_of track options (setup ∷ setups) [] = []
+lists_of track options (setup ∷ setups) (read ∷ reads) = filled (chunks (given_of track setup options) read.samples) ∷ lists_of (track + 1) options setups reads
+
+-- sources come back in their order, each as it was but for its count of faults
+abbrev pub ComeBack : List SourceView → List SourceView → Type 0
+ComeBack [] [] = Unit {0}
+ComeBack (b ∷ before) (a ∷ after) = Unchanged b a × ComeBack before after
+ComeBack before after = ⊥
+
+-- Some files were made on a shelf, by the names of a series, and each is kept.
+pub record KeepsMade (stem : List ℕ) (before after : ShelfView) : Type 0 where
+  pub files : List (List ℕ)
+  pub named : after.names ≡ before.names ++ names_to stem (length files)
+  pub kept : after.files ≡ with_files before.files files
+
+-- What a recording is given: how samples are put into chunks, the limits, and what its sources and its shelf show.
+pub record Asked : Type 0 where
+  pub options : Options
+  pub limits : Limits
+  pub sources : List SourceView
+  pub shelf : ShelfView
+
+-- What a recording gives: what its sources and its shelf show, and the report.
+pub record Gave : Type 0 where
+  pub sources : List SourceView
+  pub shelf : ShelfView
+  pub report : Report
+
+-- what a recording is given, and what it gives, as one
+abbrev pub asked_for : Options → Limits → List SourceView → ShelfView → Asked
+asked_for options limits sources shelf = record { options = options; limits = limits; sources = sources; shelf = shelf }
+
+abbrev pub gave : List SourceView → ShelfView → Report → Gave
+gave sources shelf report = record { sources = sources; shelf = shelf; report = report }
+
+-- why the header of the input of a track isn't taken: it is refused so, or its source failed
+abbrev pub HasFault : ℕ → Options → SourceView → SourceView → TrackFault → Type 0
+HasFault track options before after fault = WasRead track options before after (without_setup (Some fault)) ⊎ ((fault ≡ read_fault) × Rose before.faults after.faults)
+
+-- The header or the setup of the input of a track has this fault, those of the inputs below it have none, and no file was made.
+pub record EndsAtHeader (asked : Asked) (given : Gave) (track : ℕ) (fault : TrackFault) : Type 0 where
+  pub below : (number : ℕ) (source : SourceView) → number < track → slice_get asked.sources number ≡ Some source → (setup : TrackSetup) × Opens number asked.options source.content setup
+  pub before : SourceView
+  pub there : slice_get asked.sources track ≡ Some before
+  pub after : SourceView
+  pub back : slice_get given.sources track ≡ Some after
+  pub read : HasFault track asked.options before after fault
+  pub nothing : given.shelf ≡ asked.shelf
+  pub none : given.report.files ≡ []
+
+-- An empty file is within the limit of bytes, and the files that a shelf gained follow from chunks of lists by the switching rule, the earliest chunk first, then the one of the lowest track, up to this limit, if any: they were closed and kept by the names of a series, and the report tells their lengths and the samples of each track in them.
+pub record FollowOrder (asked : Asked) (given : Gave) (setups : List TrackSetup) (lists : List (List Chunk)) (limit : Option LimitShown) : Type 0 where
+  pub under : passes asked.limits.max_bytes (closed_length setups []) ≡ false
+  pub files : List (List Chunk)
+  pub order : switched asked.limits setups (in_order lists) ≡ record { files = files; limit = limit }
+  pub kept : AllKept asked.shelf asked.limits.stem setups files given.shelf
+  pub reports : Reports setups files files given.report
+
+-- Each input was read to its end or to its fault, and the samples before it stand in the files, all of them, where the shelf tells its files.
+pub record RecordsAll (asked : Asked) (given : Gave) (setups : List TrackSetup) (reads : List Said) : Type 0 where
+  pub read : AllRead 0 asked.options asked.sources given.sources reads
+  pub taken : map (λ r. r.setup) reads ≡ map Some setups
+  pub series : OpenSeries
+  pub own : (series.files.setups ≡ setups) × (series.files.limits ≡ asked.limits)
+  pub back : (before : List (List ℕ)) → asked.shelf.files ≡ Some before
+      → WholeReadBack asked.shelf before series (lists_of 0 asked.options setups reads) (lists_of 0 asked.options setups reads) given.report given.shelf
+  pub follow : FollowOrder asked given setups (lists_of 0 asked.options setups reads) None
+
+-- A chunk of what was read meets this limit, and those before it in its track stand in the files.
+pub record RecordsToLimit (asked : Asked) (given : Gave) (shown : LimitShown) : Type 0 where
+  pub setups : List TrackSetup
+  pub reads : List Said
+  pub read : AllRead 0 asked.options asked.sources given.sources reads
+  pub taken : map (λ r. r.setup) reads ≡ map Some setups
+  pub series : OpenSeries
+  pub own : (series.files.setups ≡ setups) × (series.files.limits ≡ asked.limits)
+  pub back : (before : List (List ℕ)) → asked.shelf.files ≡ Some before
+      → ReadToLimit asked.shelf before series (lists_of 0 asked.options setups reads) shown given.report given.shelf
+  pub follow : FollowOrder asked given setups (lists_of 0 asked.options setups reads) (Some shown)
+
+-- Not even an empty file of these setups is within the limit of bytes, and none was made.
+pub record FitsNothing (asked : Asked) (given : Gave) (shown : LimitShown) : Type 0 where
+  pub setups : List TrackSetup
+  pub opens : (number : ℕ) (source : SourceView) (setup : TrackSetup) → slice_get asked.sources number ≡ Some source → slice_get setups number ≡ Some setup → Opens number asked.options source.content setup
+  pub one_each : length setups ≡ length asked.sources
+  pub passed : IsNothing asked.limits setups shown
+  pub nothing : given.shelf ≡ asked.shelf
+  pub none : given.report.files ≡ []
+
+-- all inputs were recorded, and this is the answer for the lowest of their faults
+abbrev pub Recorded : Asked → Gave → SerialOutcome → Type 0
+Recorded asked given outcome = (setups : List TrackSetup) × (reads : List Said) × RecordsAll asked given setups reads × (outcome ≡ lowest_fault 0 (map (λ r. r.fault) reads))
+
+-- How the recording of several inputs ends, by its answer.
+abbrev pub SerialEnds : Asked → Gave → SerialOutcome → Type 0
+SerialEnds asked given Done = Recorded asked given Done
+SerialEnds asked given WriteFault = Rose asked.shelf.faults given.shelf.faults
+SerialEnds asked given (Limit shown) = FitsNothing asked given shown ⊎ RecordsToLimit asked given shown
+SerialEnds asked given (Refused track fault) = EndsAtHeader asked given track fault ⊎ Recorded asked given (Refused track fault)
+SerialEnds asked given (ReadFault input) = EndsAtHeader asked given input read_fault ⊎ Recorded asked given (ReadFault input)
+SerialEnds asked given NoMemory = Unit {0}
