@@ -10,6 +10,7 @@ mod holes;
 mod hostile;
 mod phone;
 mod plain;
+mod rows;
 mod three_samples;
 
 /// A file of three AAC samples of four bytes, 1024 ticks apart: `ftyp` at 0, `mdat` at 24, `moov` at 52.
