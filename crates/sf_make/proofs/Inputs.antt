@@ -12,7 +12,7 @@ joined : (xs ys zs : List ℕ) → (xs ++ ys) ++ zs ≡ xs ++ (ys ++ zs)
 joined xs ys zs = simp append_assoc refl
 
 -- the records of one sample more
-records_more : (kind : Kind) (n : ℕ) → flat_map record_bytes (generated_samples kind (n + 1)) ≡ flat_map record_bytes (generated_samples kind n) ++ record_bytes (generated_sample kind n)
+pub records_more : (kind : Kind) (n : ℕ) → flat_map record_bytes (generated_samples kind (n + 1)) ≡ flat_map record_bytes (generated_samples kind n) ++ record_bytes (generated_sample kind n)
 records_more kind n =
     ap (flat_map record_bytes) (map-range_with_len_more (generated_sample kind) 0 n n (omega arith))
     ∙ flat_map-append record_bytes (generated_samples kind n) (generated_sample kind n ∷ [])

@@ -1,1 +1,4 @@
 pub mod Inputs
+pub mod Reading
+pub mod Generated
+pub mod MakeLaws

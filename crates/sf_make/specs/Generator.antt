@@ -1,6 +1,6 @@
 -- The inputs that the generator makes. Track t is AVC where t is even, and AAC where it is odd. They are no pictures or
 -- sounds that can be decoded.
-use Rattle.std.specs.Prelude.{ℕ, ◌*◌, ◌%◌, ◌==◌, if◌then◌else◌, Bool, true, List, [], ◌∷◌, map, replicate}
+use Rattle.std.specs.Prelude.{ℕ, zero, suc, ◌+◌, ◌*◌, ◌/◌, ◌%◌, ◌==◌, if◌then◌else◌, Bool, true, List, [], ◌∷◌, map, replicate}
 use Rattle.std.specs.List.{range_with_len}
 use Rattle.sf_tick.specs.declared.types.Kind.{Kind}
 use Rattle.sf_tick.specs.declared.types.Kind.TheVariants.{Avc, Aac}
@@ -65,3 +65,13 @@ generated_input kind count = coded_bytes (generated_setup kind) (generated_sampl
 -- the inputs of so many tracks, each with so many samples
 abbrev pub generated_inputs : ℕ → ℕ → List (List ℕ)
 generated_inputs count tracks = map (λ t. generated_input (generated_kind t) count) (range_with_len 0 tracks)
+
+-- the sum of the numbers below a number
+unfoldable pub sum_below : ℕ → ℕ
+sum_below zero = 0
+sum_below (suc n) = sum_below n + n
+
+-- how many bytes the payloads of so many samples of a kind take
+abbrev pub payload_total : Kind → ℕ → ℕ
+payload_total Avc count = 5 * count + (21 * (count / 7) + sum_below (count % 7))
+payload_total Aac count = count + (10 * (count / 5) + sum_below (count % 5))

@@ -6,9 +6,11 @@
 #![tactic(auto)]
 
 mod generator;
+mod laws;
 mod writing;
 
 pub use generator::make_inputs;
+pub use laws::{coded_read_back, input_lengths, inputs_read_back};
 
 #[cfg(test)]
 mod tests;
