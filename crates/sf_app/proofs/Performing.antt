@@ -1,20 +1,13 @@
--- What an input that was fetched and given back says of an answer.
-use Rattle.std.proofs.Common.{◌≡◌, ℕ, inr, List, [], ◌∷◌, ◌++◌, Option, Result, Err, refl, ap, sym, subst, ◌∙◌, arith}
+-- What an input that was fetched and given back says of a list.
+use Rattle.std.proofs.Common.{◌≡◌, ℕ, inr, List, [], ◌∷◌, ◌++◌, Result, Err, refl, ap, sym, subst, ◌∙◌, arith}
 use Rattle.sf_meaning.specs.Movie.{movie}
 use Rattle.sf_meaning.specs.declared.movie.PlainMovie.{PlainMovie}
-use Rattle.sf_record.specs.Recorded.{KeptToLimit, Recorded}
-use Rattle.sf_record.specs.Said.{OfSaid}
-use Rattle.sf_record.specs.declared.limits.LimitShown.{LimitShown}
-use Rattle.sf_record.specs.declared.outcome.Outcome.{Outcome}
-use Rattle.sf_record.specs.declared.outcome.Outcome.TheVariants as outcomes
-use Rattle.sf_record.specs.declared.outcome.Report.{Report}
 use Rattle.sf_world.specs.Counts.{Rose}
-use Rattle.sf_world.specs.Views.{Gave, GivenBack, InputsView, IsGiven, KeptAtMost, ShelfView, SinkView, SourceView, TakesBack}
+use Rattle.sf_world.specs.Views.{Gave, GivenBack, InputsView, IsGiven, SinkView, SourceView, TakesBack}
 use Rattle.sf_world.specs.declared.failures.Denied.{Denied}
 use Rattle.sf_app.specs.AnswerText.{Puts}
 use Rattle.sf_app.specs.ListEnds.{Reads}
 use Rattle.sf_app.specs.Outside.{Faulty, OfTold}
-use Rattle.sf_app.specs.RecordEnds.{Performs, answered, file_name}
 use Rattle.sf_movie.specs.Loads.{IsCaused, Reads as Loads}
 use Rattle.sf_app.specs.inner.Load.{read_status}
 use Rattle.sf_movie.specs.declared.load.LoadFault.{LoadFault}
@@ -40,30 +33,6 @@ faulty name source end i m i' v rose = record {
   some = omega (arith, rose, v.given.faults);
   failed = omega (arith, rose, v.given.faults, v.kept, v.takes.faults);
 }
-
--- how an input was recorded, by the outcome
-pub performs_by : (name : List ℕ) (outcome : Outcome) (report : Report) (source end : SourceView) (i m i' : InputsView) (s s' : ShelfView) → Visit name source end i m i'
-    → OfSaid source.content (λ said. Recorded said outcome report file_name s s')
-    → ((limit : LimitShown) → outcome ≡ outcomes.Limit limit → ¬ Rose source.faults end.faults → OfSaid source.content (λ said. KeptToLimit said limit report file_name s s'))
-    → KeptAtMost file_name s s' → (outcome ≡ outcomes.WriteFault → Rose s.faults s'.faults) → (outcome ≡ outcomes.ReadFault → Rose source.faults end.faults)
-    → Performs name (answered outcome report) i i' s s'
-performs_by name outcomes.Done report source end i m i' s s' v recorded limit kept write read =
-    (subst (λ (c : Option (List ℕ)). OfSaid c (λ said. Recorded said outcomes.Done report file_name s s')) v.given.content recorded, given_back name source end i m i' v)
-performs_by name outcomes.WriteFault report source end i m i' s s' v recorded limit kept write read = (write refl, kept, given_back name source end i m i' v)
-performs_by name (outcomes.Limit shown) report source end i m i' s s' v recorded limit kept write read = record {
-  recorded = (report, subst (λ (c : Option (List ℕ)). OfSaid c (λ said. Recorded said (outcomes.Limit shown) report file_name s s')) v.given.content recorded);
-  back = given_back name source end i m i' v;
-  met = λ none. (
-    report,
-    subst (λ (c : Option (List ℕ)). OfSaid c (λ said. KeptToLimit said shown report file_name s s')) v.given.content
-        (limit shown refl (λ rose. omega (arith, rose, none, v.given.faults))),
-  );
-}
-performs_by name (outcomes.Refused fault) report source end i m i' s s' v recorded limit kept write read =
-    (refl, (report, subst (λ (c : Option (List ℕ)). OfSaid c (λ said. Recorded said (outcomes.Refused fault) report file_name s s')) v.given.content recorded), given_back name source end i m i' v)
-performs_by name outcomes.ReadFault report source end i m i' s s' v recorded limit kept write read =
-    (refl, (report, subst (λ (c : Option (List ℕ)). OfSaid c (λ said. Recorded said outcomes.ReadFault report file_name s s')) v.given.content recorded), faulty name source end i m i' v (read refl))
-performs_by name outcomes.NoMemory report source end i m i' s s' v recorded limit kept write read = (kept, inr (given_back name source end i m i' v))
 
 -- why a movie wasn't read
 pub reads_by : (name : List ℕ) (fault : LoadFault) (source end : SourceView) (i m i' : InputsView) → Visit name source end i m i'

@@ -1,17 +1,27 @@
 -- What the text says of an answer. Each line ends with a line feed; numbers are decimal.
-use Rattle.std.specs.Prelude.{◌≡◌, ℕ, List, [], ◌++◌, codes, Result, Ok, Err}
+use Rattle.std.specs.Prelude.{◌≡◌, ℕ, ◌+◌, List, [], ◌∷◌, ◌++◌, codes, Result, Ok, Err}
 use Rattle.std.specs.Fmt.{decimal}
 use Rattle.sf_world.specs.Views.{FailsWithin, Gains, SinkView}
 use Rattle.sf_world.specs.declared.failures.Denied.{Denied}
 use Rattle.sf_world.specs.declared.failures.Denied.TheVariants.{Failed, NoMemory as NoRoom}
 use Rattle.sf_app.specs.declared.status.Status.{Status}
 use Rattle.sf_app.specs.declared.status.Status.TheVariants.{Done, Usage, OpenFault, ReadFault, WriteFault, InputRefused, MovieRefused, LimitReached, NoMemory}
-use Rattle.sf_record.specs.declared.limits.LimitShown.{LimitShown}
-use Rattle.sf_record.specs.declared.limits.LimitShown.TheVariants.{Movie, Count}
+use Rattle.sf_series.specs.declared.limits.LimitShown.{LimitShown}
+use Rattle.sf_series.specs.declared.limits.LimitShown.TheVariants.{Nothing, Size, Movie, Count, Duration}
+use Rattle.sf_series.specs.declared.report.Report.{Report}
 
--- the lines of a recording in one file of so many bytes with so many samples
-abbrev pub done_lines : ℕ → ℕ → List ℕ
-done_lines size samples = codes "file 1 " ++ (decimal size ++ (codes "\ntrack 0 " ++ (decimal samples ++ codes "\ndone\n")))
+-- a line with a number and a value after its word
+abbrev pub value_line : List ℕ → ℕ → ℕ → List ℕ
+value_line word number value = word ++ (codes " " ++ (decimal number ++ (codes " " ++ (decimal value ++ codes "\n"))))
+
+-- such a line for each of some values, numbered from here on
+abbrev pub value_lines : List ℕ → ℕ → List ℕ → List ℕ
+value_lines word number [] = []
+value_lines word number (value ∷ values) = value_line word number value ++ value_lines word (number + 1) values
+
+-- the lines of a recording that is done: how many bytes each file has, counted from 1, and how many samples each track, counted from 0
+abbrev pub done_lines : Report → List ℕ
+done_lines report = value_lines (codes "file") 1 report.files ++ (value_lines (codes "track") 0 report.tracks ++ codes "done\n")
 
 -- four numbers after their word, and the end of the line
 abbrev pub limit_numbers : ℕ → ℕ → ℕ → ℕ → List ℕ
@@ -20,8 +30,11 @@ limit_numbers track sample would_be max =
 
 -- the line of a limit that was reached
 abbrev pub limit_line : LimitShown → List ℕ
+limit_line (Nothing would_be max) = codes "limit reached: nothing " ++ (decimal would_be ++ (codes " " ++ (decimal max ++ codes "\n")))
+limit_line (Size track sample would_be max) = codes "limit reached: size " ++ limit_numbers track sample would_be max
 limit_line (Movie track sample would_be max) = codes "limit reached: movie " ++ limit_numbers track sample would_be max
 limit_line (Count track sample would_be max) = codes "limit reached: count " ++ limit_numbers track sample would_be max
+limit_line (Duration track sample at start max) = codes "limit reached: duration " ++ (decimal track ++ (codes " " ++ (decimal sample ++ (codes " " ++ (decimal at ++ (codes " " ++ (decimal start ++ (codes " " ++ (decimal max ++ codes "\n")))))))))
 
 -- the line of an answer other than Done
 abbrev pub line_of : Status → List ℕ

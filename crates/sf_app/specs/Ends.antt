@@ -10,8 +10,8 @@ use Rattle.sf_app.specs.declared.status.Status.{Status}
 use Rattle.sf_app.specs.declared.status.Status.TheVariants.{Usage}
 use Rattle.sf_app.specs.declared.status.UsageFault.{UsageFault}
 
--- what stands after the command that the words ask for: an input was recorded, or a movie listed, which leaves the shelf as it was; wrong words are refused so, and then only the text is touched
+-- what stands after the command that the words ask for: inputs were recorded, or a movie listed, which leaves the shelf as it was; wrong words are refused so, and then only the text is touched
 abbrev pub Ends : Result Command UsageFault → Status → Outside → Outside → Type 0
 Ends (Err fault) result b a = (result ≡ Usage fault) × (a.inputs ≡ b.inputs) × (a.shelf ≡ b.shelf) × Says (line_of (Usage fault)) b.text a.text
-Ends (Ok (records name)) result b a = RecordEnds name result b a
+Ends (Ok (records names)) result b a = RecordEnds names result b a
 Ends (Ok (lists name)) result b a = ListEnds name result b a × (a.shelf ≡ b.shelf)

@@ -4,6 +4,7 @@ pub mod Status
 pub mod AnswerText
 pub mod ListText
 pub mod Outside
+pub mod Lending
 pub mod RecordEnds
 pub mod ListEnds
 pub mod Ends

@@ -1,5 +1,6 @@
 -- What the words of the command line ask for. Words are lists of bytes.
-use Rattle.std.specs.Prelude.{ℕ, ◌==◌, Bool, false, not, List, [], ◌∷◌, map, codes, String, string_bytes, Result, Ok, Err, if◌then◌else◌}
+use Rattle.std.specs.Prelude.{ℕ, ◌==◌, ◌&&◌, nat_le, Bool, false, not, List, [], ◌∷◌, length, map, codes, String, string_bytes, Result, Ok, Err, if◌then◌else◌}
+use Rattle.std.specs.List.{list_all}
 use Rattle.std.specs.Str.{bytes_eq}
 use Rattle.sf_app.specs.declared.status.UsageFault.{UsageFault}
 use Rattle.sf_app.specs.declared.status.UsageFault.TheVariants as usage
@@ -15,22 +16,26 @@ one_name [] = Err usage.Words
 one_name (name ∷ []) = if is_plain name then Ok name else Err usage.Words
 one_name (name ∷ other ∷ words) = Err usage.Words
 
--- What is to be done: an input of a name is recorded, or the movie of a name is listed.
+-- the names, where the words are 1 to 16 that can each name an input
+abbrev pub some_names : List (List ℕ) → Result (List (List ℕ)) UsageFault
+some_names words = if nat_le 1 (length words) && nat_le (length words) 16 && list_all is_plain words then Ok words else Err usage.Words
+
+-- What is to be done: inputs of names are recorded, or the movie of a name is listed.
 pub data Command : Type 0 where
-  records : List ℕ → Command
+  records : List (List ℕ) → Command
   lists : List ℕ → Command
 
--- a command with one name, where that is given
-abbrev pub with_name : (List ℕ → Command) → Result (List ℕ) UsageFault → Result Command UsageFault
-with_name make (Ok name) = Ok (make name)
-with_name make (Err fault) = Err fault
+-- the command of some names, where they are given
+abbrev pub with_names : {A : Type 0} → (A → Command) → Result A UsageFault → Result Command UsageFault
+with_names make (Ok names) = Ok (make names)
+with_names make (Err fault) = Err fault
 
 -- what the words ask for, or what is wrong with them
 abbrev pub command : List (List ℕ) → Result Command UsageFault
 command [] = Err usage.Command
 command (first ∷ words) =
-    if bytes_eq first (codes "record") then with_name records (one_name words)
-    else if bytes_eq first (codes "list") then with_name lists (one_name words)
+    if bytes_eq first (codes "record") then with_names records (some_names words)
+    else if bytes_eq first (codes "list") then with_names lists (one_name words)
     else Err usage.Command
 
 -- the same, from the words as texts

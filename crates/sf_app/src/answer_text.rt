@@ -1,12 +1,13 @@
 //! The lines of answers, put into a text.
 
-ghost use Rattle.std.specs.Prelude.{◌≡◌, string_bytes, IfOk};
-ghost use Rattle.sf_app.specs.AnswerText.{done_lines, limit_line, line_of, Puts};
+ghost use Rattle.std.specs.Prelude.{◌≡◌, ◌++◌, string_bytes, IfOk, OnOk};
+ghost use Rattle.sf_app.specs.AnswerText.{done_lines, limit_line, line_of, value_line, value_lines, Puts};
 
 use super::Status;
-use sf_record::{LimitShown, Report};
+use sf_series::{LimitShown, Report};
 use sf_world::{Denied, Sink};
 use std::alloc::{AllocError, Global};
+use std::fmt::Write;
 
 const USAGE: &str =
     "usage: record INPUT.. | extract MOVIE PLAN.. | list MOVIE | make COUNT TRACKS\n";
@@ -18,12 +19,41 @@ fn put<T: Sink>(text: &mut T, lines: &str) -> Result<(), Denied>
     text.append(lines.as_bytes())
 }
 
+// Adds a line of a word, a number and a value, after the lines that are there.
+fn add_value(lines: &mut String, word: &str, number: u64, value: u64) -> Result<(), AllocError>
+    ensures { OnOk result (string_bytes lines.new ≡ string_bytes lines.old ++ value_line word.now number value) }
+{
+    write!(lines, "{word} {number} {value}\n")?;
+    Ok(())
+}
+
+// Adds such a line for each of some values, numbered from here on.
+fn add_values(lines: &mut String, word: &str, first: u8, values: &[u64]) -> Result<(), AllocError>
+    ensures { OnOk result (string_bytes lines.new ≡ string_bytes lines.old ++ value_lines word.now first values.now) }
+{
+    for index in 0..values.len() {
+        let number = u64::from(first) + index as u64;
+        add_value(lines, word, number, values[index])?;
+    }
+    Ok(())
+}
+
+// The lines of a recording that is done.
+fn done_lines(alloc: Global, report: &Report) -> Result<String, AllocError>
+    ensures { IfOk result (λ lines. string_bytes lines ≡ done_lines report.now) }
+{
+    let mut lines = String::new(alloc);
+    add_values(&mut lines, "file", 1, report.files.as_slice())?;
+    add_values(&mut lines, "track", 0, report.tracks.as_slice())?;
+    lines.push_str("done\n")?;
+    Ok(lines)
+}
+
 /// Puts the lines of a recording that is done into a text.
 pub(crate) fn put_done<T: Sink>(alloc: Global, text: &mut T, report: &Report) -> Result<(), Denied>
-    ensures { Puts (done_lines report.now.size report.now.samples) result (T.seen text.old) (T.seen text.new) }
+    ensures { Puts (done_lines report.now) result (T.seen text.old) (T.seen text.new) }
 {
-    let Report { size, samples } = *report;
-    let lines = format!(in alloc; "file 1 {size}\ntrack 0 {samples}\ndone\n")?;
+    let lines = done_lines(alloc, report)?;
     put(text, lines.as_str())
 }
 
@@ -32,6 +62,15 @@ fn limit_line(alloc: Global, limit: &LimitShown) -> Result<String, AllocError>
     ensures { IfOk result (λ line. string_bytes line ≡ limit_line limit.now) }
 {
     match limit {
+        LimitShown::Nothing { would_be, max } => {
+            format!(in alloc; "limit reached: nothing {would_be} {max}\n")
+        }
+        LimitShown::Size {
+            track,
+            sample,
+            would_be,
+            max,
+        } => format!(in alloc; "limit reached: size {track} {sample} {would_be} {max}\n"),
         LimitShown::Movie {
             track,
             sample,
@@ -44,6 +83,15 @@ fn limit_line(alloc: Global, limit: &LimitShown) -> Result<String, AllocError>
             would_be,
             max,
         } => format!(in alloc; "limit reached: count {track} {sample} {would_be} {max}\n"),
+        LimitShown::Duration {
+            track,
+            sample,
+            at_us,
+            file_start_us,
+            max_us,
+        } => format!(in alloc;
+            "limit reached: duration {track} {sample} {at_us} {file_start_us} {max_us}\n"
+        ),
     }
 }
 

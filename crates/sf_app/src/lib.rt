@@ -1,7 +1,7 @@
 //! What the program does with its words: `run`.
 //!
-//! A command is a file with four steps: fetch the input that its words name, call the crate that does the work, give the
-//! input back, and tell how it went. `record` makes a file of a coded sample file, and `list` puts the samples of a movie
+//! A command is a file with four steps: fetch the inputs that its words name, call the crate that does the work, give the
+//! inputs back, and tell how it went. `record` makes files of coded sample files, and `list` puts the samples of a movie
 //! into the text. Each answer other than `Done` has its cause in the clauses of `run`.
 #![tactic(auto)]
 
@@ -20,7 +20,8 @@ pub use sf_coded::CodedFault;
 pub use sf_entry::SetupFault;
 pub use sf_gather::SampleFault;
 pub use sf_meaning::MovieFault;
-pub use sf_record::{InputFault, LimitShown, TrackFault};
+pub use sf_record::{InputFault, TrackFault};
+pub use sf_series::LimitShown;
 pub use status::{Status, UsageFault};
 
 #[cfg(test)]

@@ -14,7 +14,7 @@ use super::words::{Command, read_words};
 use sf_world::{Inputs, Shelf, Sink};
 use std::alloc::Global;
 
-/// Does what the words say: `record INPUT` makes a file `out-1.mp4` of the samples of an input, and
+/// Does what the words say: `record INPUT..` makes a file `out-1.mp4` of the samples of 1 to 16 inputs, each as a track, and
 /// `list MOVIE` puts the list of a movie's samples into the text. The text says how it went. Each
 /// source is given back, and each file that was made is kept.
 pub fn run<I: Inputs, O: Shelf, T: Sink>(
@@ -32,7 +32,7 @@ pub fn run<I: Inputs, O: Shelf, T: Sink>(
     ensures untouched { (fault : UsageFault) → asked words.now ≡ Err fault → (inputs.new ≡ inputs.old) × (shelf.new ≡ shelf.old) }
 {
     match read_words(words) {
-        Ok(Command::Record(name)) => run_record(alloc, inputs, name, shelf, text),
+        Ok(Command::Record(names)) => run_record(alloc, inputs, names, shelf, text),
         Ok(Command::List(name)) => run_list(alloc, inputs, name, text),
         Err(fault) => {
             let status = Status::Usage(fault);

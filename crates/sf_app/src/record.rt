@@ -1,60 +1,135 @@
 //! The command `record`.
 
-ghost use Rattle.std.specs.Prelude.{◌≡◌, ◌⊎◌, ℕ, List, Some, None, Ok, Err};
+ghost use Rattle.std.specs.Prelude.{◌≡◌, ◌≢◌, ℕ, ◌≤◌, List, length, map, slice_get, string_bytes, Some, None, Ok, Err, IfOk, IfErr};
 ghost use Rattle.sf_app.specs.AnswerText.{done_lines};
 ghost use Rattle.sf_app.specs.Outside.{KeepInputs, outside_of};
-ghost use Rattle.sf_app.specs.RecordEnds.{Performs, RecordEnds, TellsDone, Answered, answered};
-ghost use Rattle.sf_record.specs.Said.{said_of};
+ghost use Rattle.sf_app.specs.RecordEnds.{Answered, AreHeld, HoldsInputs, Performs, RecordEnds, TellsDone, answered, status_of, usual_limits};
+ghost use Rattle.sf_app.specs.inner.Fetching.{Fetched, TakesAllBack, Unfetched, unfetched};
+ghost use Rattle.sf_record.specs.Called.{called_for};
+ghost use Rattle.sf_record.specs.Said.{said_in, usual};
+ghost use Rattle.sf_series.specs.Series.{AreLimits};
 ghost use Rattle.sf_world.specs.Counts.{Rose};
 
 use super::Status;
 use super::answer_text::{put_answer, put_done};
-use sf_record::{Outcome, Report, record_one};
+use sf_gather::Options;
+use sf_list::Text;
+use sf_record::{SerialOutcome, record_serial};
+use sf_series::{Limits, Report};
 use sf_world::{Denied, Inputs, Shelf, Sink};
-use std::alloc::Global;
+use std::alloc::{AllocError, Global};
 
-// The report of a recording that is done, or the answer of another one.
-fn report_of(outcome: Outcome, report: Report) -> Result<Report, Status>
-    ensures { result ≡ answered outcome report }
+/// How samples are put into chunks where nothing else is asked for: of at most a second, from the start 0 on.
+const USUAL: Options = Options {
+    start_us: 0,
+    interleave_us: 1_000_000,
+};
+
+// The limits where nothing else is asked for: one file of whatever length.
+fn usual_limits(alloc: Global) -> Result<Limits, AllocError>
+    ensures limits { IfOk result (λ limits. limits ≡ usual_limits) }
+    ensures within { IfOk result AreLimits }
 {
-    match outcome {
-        Outcome::Done => Ok(report),
-        Outcome::WriteFault => Err(Status::WriteFault),
-        Outcome::Limit(limit) => Err(Status::LimitReached(limit)),
-        Outcome::Refused(fault) => Err(Status::InputRefused { track: 0, fault }),
-        Outcome::ReadFault => Err(Status::ReadFault { input: 0 }),
-        Outcome::NoMemory => Err(Status::NoMemory),
+    Ok(Limits {
+        max_bytes: 0,
+        max_duration_us: 0,
+        max_files: 1,
+        stem: Text::from_str(alloc, "out")?,
+    })
+}
+
+// Gives sources back, in their order.
+fn give_all_back<I: Inputs>(inputs: &mut I, sources: Vec<I::Src>)
+    requires { length sources.items ≤ (I.seen inputs.old).spare }
+    ensures { TakesAllBack (map (λ s. (I.Src.seen s).faults) sources.items) (I.seen inputs.old) (I.seen inputs.new) }
+{
+    for source in sources {
+        inputs.give_back(source);
     }
 }
 
-// Fetches the input of a name, records it into the file of a recording, and gives it back.
-fn record_input<I: Inputs, O: Shelf>(
+// The answer where no source is given for the name of a number.
+fn unfetched(number: u32, denied: Denied) -> Status
+    ensures { result ≡ unfetched number denied }
+{
+    match denied {
+        Denied::Failed => Status::OpenFault { input: number },
+        Denied::NoMemory => Status::NoMemory,
+    }
+}
+
+// Fetches the inputs of names, in their order. Where one isn't given those before it are given back.
+fn fetch_all<I: Inputs>(
     alloc: Global,
     inputs: &mut I,
-    name: &str,
+    names: &[String],
+) -> Result<Vec<I::Src>, Status>
+    requires few { length names.now ≤ 16 }
+    ensures fetched { IfOk result (λ sources. Fetched (map string_bytes names.now) (map (λ s. I.Src.seen s) sources.items) (I.seen inputs.old) (I.seen inputs.new)) }
+    ensures count { IfOk result (λ sources. length sources.items ≡ length names.now) }
+    ensures unfetched { IfErr result (λ status. Unfetched (map string_bytes names.now) status (I.seen inputs.old) (I.seen inputs.new)) }
+    ensures inputs { KeepInputs (I.seen inputs.old) (I.seen inputs.new) }
+{
+    let Ok(mut sources) = Vec::with_capacity(alloc, names.len()) else {
+        return Err(Status::NoMemory);
+    };
+    for number in 0..names.len() {
+        match inputs.fetch(names[number].as_str()) {
+            Ok(source) => sources.push_reserved(source),
+            Err(denied) => {
+                give_all_back(inputs, sources);
+                return Err(unfetched(number as u32, denied));
+            }
+        }
+    }
+    Ok(sources)
+}
+
+// The report of a recording that is done, or the answer of another one.
+fn report_of(outcome: SerialOutcome, report: Report) -> Result<Report, Status>
+    ensures { result ≡ answered outcome report }
+{
+    match outcome {
+        SerialOutcome::Done => Ok(report),
+        SerialOutcome::WriteFault => Err(Status::WriteFault),
+        SerialOutcome::Limit(limit) => Err(Status::LimitReached(limit)),
+        SerialOutcome::Refused { track, fault } => Err(Status::InputRefused { track, fault }),
+        SerialOutcome::ReadFault { input } => Err(Status::ReadFault { input }),
+        SerialOutcome::NoMemory => Err(Status::NoMemory),
+    }
+}
+
+// Fetches the inputs of names, records them into files, and gives them back.
+fn record_inputs<I: Inputs, O: Shelf>(
+    alloc: Global,
+    inputs: &mut I,
+    names: &[String],
     shelf: &mut O,
 ) -> Result<Report, Status>
-    ensures performs { Performs name.now result (I.seen inputs.old) (I.seen inputs.new) (O.seen shelf.old) (O.seen shelf.new) }
+    requires some { 1 ≤ length names.now }
+    requires few { length names.now ≤ 16 }
+    ensures performs { Performs (map string_bytes names.now) result (I.seen inputs.old) (I.seen inputs.new) (O.seen shelf.old) (O.seen shelf.new) }
     ensures inputs { KeepInputs (I.seen inputs.old) (I.seen inputs.new) }
-    ensures header { (bytes : List ℕ) → (I.seen inputs.old).holds name.now ≡ Some bytes
-        → (said_of bytes).setup ≡ None → O.seen shelf.new ≡ O.seen shelf.old }
-    ensures complete { (bytes : List ℕ) → (I.seen inputs.old).holds name.now ≡ Some bytes
+    ensures done { IfOk result (λ report. (before : List (List ℕ)) → (O.seen shelf.old).files ≡ Some before → HoldsInputs (map string_bytes names.now) (I.seen inputs.old) before (O.seen shelf.new)) }
+    ensures other { IfErr result (λ status. status ≢ Status.Done) }
+    ensures header { (track : ℕ) (name bytes : List ℕ) → slice_get (map string_bytes names.now) track ≡ Some name → (I.seen inputs.old).holds name ≡ Some bytes
+        → (said_in track usual bytes).setup ≡ None → O.seen shelf.new ≡ O.seen shelf.old }
+    ensures complete { (all : List (List ℕ)) → AreHeld (I.seen inputs.old) (map string_bytes names.now) all
         → ¬ Rose (I.seen inputs.old).misses (I.seen inputs.new).misses → ¬ Rose (I.seen inputs.old).faults (I.seen inputs.new).faults
-        → ¬ Rose (O.seen shelf.old).faults (O.seen shelf.new).faults → Answered result (said_of bytes) }
+        → ¬ Rose (O.seen shelf.old).faults (O.seen shelf.new).faults → Answered result (status_of (called_for usual usual_limits all)) }
 {
-    let source = match inputs.fetch(name) {
-        Ok(source) => source,
-        Err(Denied::Failed) => return Err(Status::OpenFault { input: 0 }),
-        Err(Denied::NoMemory) => return Err(Status::NoMemory),
+    let Ok(limits) = usual_limits(alloc) else {
+        return Err(Status::NoMemory);
     };
-    let end = record_one(alloc, source, "out-1.mp4", shelf);
-    inputs.give_back(end.source);
+    let sources = fetch_all(alloc, inputs, names)?;
+    let end = record_serial(alloc, sources, USUAL, limits, shelf);
+    give_all_back(inputs, end.sources);
     report_of(end.outcome, end.report)
 }
 
 // Tells that a recording is done.
 fn tell_done<T: Sink>(alloc: Global, text: &mut T, report: &Report) -> Status
-    ensures { TellsDone (done_lines report.now.size report.now.samples) result (T.seen text.old) (T.seen text.new) }
+    ensures { TellsDone (done_lines report.now) result (T.seen text.old) (T.seen text.new) }
 {
     match put_done(alloc, text, report) {
         Ok(()) => Status::Done,
@@ -63,18 +138,20 @@ fn tell_done<T: Sink>(alloc: Global, text: &mut T, report: &Report) -> Status
     }
 }
 
-/// Records the input of a name into the file of a recording, and tells how it went.
+/// Records the inputs of names, each as a track, into the files of a recording, and tells how it went.
 pub(crate) fn run_record<I: Inputs, O: Shelf, T: Sink>(
     alloc: Global,
     inputs: &mut I,
-    name: &str,
+    names: &[String],
     shelf: &mut O,
     text: &mut T,
 ) -> Status
-    ensures { RecordEnds name.now result (outside_of (I.seen inputs.old) (O.seen shelf.old) (T.seen text.old))
+    requires some { 1 ≤ length names.now }
+    requires few { length names.now ≤ 16 }
+    ensures { RecordEnds (map string_bytes names.now) result (outside_of (I.seen inputs.old) (O.seen shelf.old) (T.seen text.old))
         (outside_of (I.seen inputs.new) (O.seen shelf.new) (T.seen text.new)) }
 {
-    match record_input(alloc, inputs, name, shelf) {
+    match record_inputs(alloc, inputs, names, shelf) {
         Ok(report) => tell_done(alloc, text, &report),
         Err(status) => {
             let _put = put_answer(alloc, text, &status);

@@ -4,7 +4,8 @@ ghost use Rattle.std.specs.Prelude.{◌≡◌};
 ghost use Rattle.sf_app.specs.Status.{code_of};
 
 use sf_meaning::MovieFault;
-use sf_record::{LimitShown, TrackFault};
+use sf_record::TrackFault;
+use sf_series::LimitShown;
 
 /// What is wrong with the words.
 #[derive(Clone, Copy, Debug, PartialEq, Eq)]

@@ -10,6 +10,7 @@ mod inputs;
 mod listing;
 mod movies;
 mod refusals;
+mod several;
 mod sizes;
 mod tables;
 mod texts;

@@ -1,17 +1,38 @@
 //! The words of the command line.
 
-ghost use Rattle.std.specs.Prelude.{◌≡◌, map, string_bytes, MatchResult};
-ghost use Rattle.sf_app.specs.inner.Commands.{Asks};
-ghost use Rattle.sf_app.specs.Words.{asked, one_name};
+ghost use Rattle.std.specs.Prelude.{◌≡◌, ◌≤◌, length, map, string_bytes, IfOk, MatchResult};
+ghost use Rattle.std.specs.List.{list_all};
+ghost use Rattle.sf_app.specs.inner.Commands.{Asks, IsTakable};
+ghost use Rattle.sf_app.specs.Words.{asked, is_plain, one_name, some_names};
 
 use super::UsageFault;
 
+/// The most inputs of a recording.
+const MOST: usize = 16;
+
 /// What is to be done.
 pub(crate) enum Command<'a> {
-    /// The input of a name is recorded.
-    Record(&'a str),
+    /// The inputs of these names are recorded, 1 to 16.
+    Record(&'a [String]),
     /// The movie of a name is listed.
     List(&'a str),
+}
+
+// Whether a word can name an input: it is neither empty nor begins with `-`.
+fn is_plain(word: &str) -> bool
+    ensures { result ≡ is_plain word.now }
+{
+    match word.as_bytes() {
+        [] => false,
+        [first, ..] => *first != b'-',
+    }
+}
+
+// Whether each of the words can name an input.
+fn are_plain(words: &[String]) -> bool
+    ensures { result ≡ list_all (λ w. is_plain (string_bytes w)) words.now }
+{
+    words.iter().all(|word| is_plain(word.as_str()))
 }
 
 // The name, where the words are just one that can name an input.
@@ -21,22 +42,42 @@ fn one_name(words: &[String]) -> Result<&str, UsageFault>
     let [name] = words else {
         return Err(UsageFault::Words);
     };
-    match name.as_bytes() {
-        [] => Err(UsageFault::Words),
-        [b'-', ..] => Err(UsageFault::Words),
-        _ => Ok(name.as_str()),
+    let name = name.as_str();
+    if is_plain(name) {
+        Ok(name)
+    } else {
+        Err(UsageFault::Words)
+    }
+}
+
+// The names, where the words are 1 to 16 that can each name an input.
+fn some_names(words: &[String]) -> Result<&[String], UsageFault>
+    ensures names { MatchResult result (λ names. some_names (map string_bytes words.now) ≡ Ok (map string_bytes names.now)) (λ fault. some_names (map string_bytes words.now) ≡ Err fault) }
+    ensures few { IfOk result (λ names. (1 ≤ length names.now) × (length names.now ≤ 16)) }
+{
+    let [_first, ..] = words else {
+        return Err(UsageFault::Words);
+    };
+    if words.len() > MOST {
+        return Err(UsageFault::Words);
+    }
+    if are_plain(words) {
+        Ok(words)
+    } else {
+        Err(UsageFault::Words)
     }
 }
 
 /// What the words ask for, or what is wrong with them.
 pub(crate) fn read_words(words: &[String]) -> Result<Command<'_>, UsageFault>
-    ensures { MatchResult result (λ command. Asks (asked words.now) command) (λ fault. asked words.now ≡ Err fault) }
+    ensures asks { MatchResult result (λ command. Asks (asked words.now) command) (λ fault. asked words.now ≡ Err fault) }
+    ensures few { IfOk result IsTakable }
 {
     let [first, others @ ..] = words else {
         return Err(UsageFault::Command);
     };
     if first.as_str() == "record" {
-        return Ok(Command::Record(one_name(others)?));
+        return Ok(Command::Record(some_names(others)?));
     }
     if first.as_str() == "list" {
         return Ok(Command::List(one_name(others)?));

@@ -1,5 +1,5 @@
 -- The commands of the code.
-use Rattle.std.specs.Prelude.{◌≡◌, Result, Ok}
+use Rattle.std.specs.Prelude.{◌≡◌, ◌≤◌, length, map, string_bytes, Result, Ok}
 use Rattle.sf_app.specs.Words.{Command, records, lists}
 use Rattle.sf_app.specs.declared.status.UsageFault.{UsageFault}
 use Rattle.sf_app.specs.declared.words.Command.{Command as Made}
@@ -7,5 +7,10 @@ use Rattle.sf_app.specs.declared.words.Command.TheVariants.{Record, List}
 
 -- the words ask for this command
 abbrev pub Asks : Result Command UsageFault → Made → Type 0
-Asks said (Record name) = said ≡ Ok (records name.now)
+Asks said (Record names) = said ≡ Ok (records (map string_bytes names.now))
 Asks said (List name) = said ≡ Ok (lists name.now)
+
+-- the names of a recording are 1 to 16
+abbrev pub IsTakable : Made → Type 0
+IsTakable (Record names) = (1 ≤ length names.now) × (length names.now ≤ 16)
+IsTakable (List name) = Unit {0}

@@ -9,7 +9,7 @@ const USAGE: &[u8] =
 
 #[test]
 fn words_that_are_no_command_are_refused(rt: HostRuntime) -> Result<(), Fail> {
-    let rows: [(&[&str], UsageFault); 14] = [
+    let rows: [(&[&str], UsageFault); 16] = [
         (&[], UsageFault::Command),
         (&[""], UsageFault::Command),
         (&["Record", "a"], UsageFault::Command),
@@ -18,7 +18,9 @@ fn words_that_are_no_command_are_refused(rt: HostRuntime) -> Result<(), Fail> {
         (&["record", ""], UsageFault::Words),
         (&["record", "-"], UsageFault::Words),
         (&["record", "-a"], UsageFault::Words),
-        (&["record", "a", "a"], UsageFault::Words),
+        (&["record", "a", ""], UsageFault::Words),
+        (&["record", "a", "-a"], UsageFault::Words),
+        (&["record", "a", "a", "-", "a"], UsageFault::Words),
         (&["lists", "a"], UsageFault::Command),
         (&["list"], UsageFault::Words),
         (&["list", ""], UsageFault::Words),
@@ -77,7 +79,30 @@ fn each_limit_has_its_line(rt: HostRuntime) -> Result<(), Fail> {
         would_be: 16_777_217,
         max: 16_777_216,
     };
-    let rows: [(LimitShown, &[u8]); 2] = [
+    let nothing = LimitShown::Nothing {
+        would_be: 604,
+        max: 603,
+    };
+    let size = LimitShown::Size {
+        track: 1,
+        sample: 2,
+        would_be: 648,
+        max: 647,
+    };
+    let duration = LimitShown::Duration {
+        track: 15,
+        sample: 7,
+        at_us: 3_000_000,
+        file_start_us: 1_000_000,
+        max_us: 1_500_000,
+    };
+    let rows: [(LimitShown, &[u8]); 5] = [
+        (nothing, b"limit reached: nothing 604 603\n"),
+        (size, b"limit reached: size 1 2 648 647\n"),
+        (
+            duration,
+            b"limit reached: duration 15 7 3000000 1000000 1500000\n",
+        ),
         (
             movie,
             b"limit reached: movie 0 5000000 268435460 268435456\n",

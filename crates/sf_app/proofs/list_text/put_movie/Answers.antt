@@ -2,7 +2,7 @@ use Rattle.std.proofs.Common.{subst}
 use Rattle.sf_app.specs.ListText.{listed, start_line, track_lines}
 use Rattle.sf_app.specs.inner.Gathered.{Stops}
 use Rattle.sf_world.specs.declared.failures.Denied.{Denied}
-use Rattle.sf_world.specs.declared.failures.Denied.TheVariants.{Failed, NoMemory}
+use Rattle.sf_world.specs.declared.failures.Denied.TheVariants.{Failed}
 use Rattle.sf_app.proofs.Gathering.{start_some, stop_some, stop_within}
 use Rattle.sf_app.proofs.list_text.put_movie.Goals as goal
 
