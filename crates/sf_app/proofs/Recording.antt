@@ -202,7 +202,7 @@ records_by names limits outcome report sources back i i' s s' is lent ends kept 
 -- how inputs were recorded, by the outcome
 pub performs_by : (names : List (List ℕ)) (outcome : SerialOutcome) (report : Report) (i i' : InputsView) (s s' : ShelfView) → Records names outcome report i i' s s' → Performs names (answered outcome report) i i' s s'
 performs_by names outcomes.Done report i i' s s' r = r
-performs_by names outcomes.WriteFault report i i' s s' r = ((report, r), r.ends)
+performs_by names outcomes.WriteFault report i i' s s' r = ((report, r), r.ends.0)
 performs_by names (outcomes.Limit limit) report i i' s s' r = (report, r)
 performs_by names (outcomes.Refused track fault) report i i' s s' r = (report, r)
 performs_by names (outcomes.ReadFault input) report i i' s s' r = ((report, r), faulty_at names input r.sources r.back i i' r.lent (source_rose input r.sources r.back s s' report r.ends))

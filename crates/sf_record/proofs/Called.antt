@@ -245,7 +245,7 @@ header_called {asked} {given} track fault inputs told not e =
 pub ends_called : {asked : Asked} {given : Gave} (outcome : SerialOutcome) (inputs : List (List ℕ)) → SerialEnds asked given outcome → TellBytes asked.sources inputs → NothingFailed asked given
     → (outcome ≡ NoMemory) ⊎ (outcome ≡ called_for asked.options asked.limits inputs)
 ends_called {asked} {given} Done inputs ends told not = inr (recorded_called Done inputs told not ends)
-ends_called {asked} {given} WriteFault inputs ends told not = absurd (not.shelf ends)
+ends_called {asked} {given} WriteFault inputs ends told not = absurd (not.shelf ends.0)
 ends_called {asked} {given} (Limit shown) inputs (inl nothing) told not = inr (nothing_called shown inputs told nothing)
 ends_called {asked} {given} (Limit shown) inputs (inr rec) told not = inr (limit_called shown inputs told not rec)
 ends_called {asked} {given} (Refused track fault) inputs (inl header) told not = inr (header_called track fault inputs told not header).0

@@ -4,7 +4,7 @@ use Rattle.std.specs.Prelude.{get_or, slice_get}
 use Rattle.std.specs.Prelude.{OnErr}
 use Rattle.std.proofs.lemmas.Bool.{cases_eq, cases_lt}
 use Rattle.std.proofs.lemmas.Option.{slice_get_within}
-use Rattle.std.proofs.lemmas.List.{length-set}
+use Rattle.std.proofs.lemmas.List.{length-set, append-nil}
 use Rattle.sf_tick.specs.declared.types.Chunk.{Chunk}
 use Rattle.sf_entry.specs.declared.track_setup.TrackSetup.{TrackSetup}
 use Rattle.sf_world.specs.Views.{ShelfView}
@@ -15,7 +15,7 @@ use Rattle.sf_series.specs.declared.faults.SeriesFault.{SeriesFault}
 use Rattle.sf_series.specs.declared.faults.SeriesFault.TheVariants.{Limit as LimitMet, NoMemory, WriteFault}
 use Rattle.sf_series.specs.declared.limits.Limits.{Limits}
 use Rattle.sf_series.specs.declared.limits.LimitShown.{LimitShown}
-use Rattle.sf_series.specs.Core.{State, is_filled, put_in, write, write_picked}
+use Rattle.sf_series.specs.Core.{State, failed, is_filled, put_in, write, write_picked}
 use Rattle.sf_series.specs.Fitting.{AreProper}
 use Rattle.sf_series.specs.Kept.{Kept}
 use Rattle.sf_series.specs.Series.{Breaks, OpenFiles, OpenSeries, Stands as SeriesStands, wrote_as}
@@ -29,7 +29,8 @@ use Rattle.sf_series.proofs.SeriesLaws.{hand_kept, hand_proper, write_kept, writ
 use Rattle.sf_series.proofs.Standing.{taken as with_taken}
 use Rattle.sf_record.specs.Pumping.{Pumping}
 use Rattle.sf_record.proofs.Counted.{failed_turn}
-use Rattle.sf_record.specs.inner.Dealing.{AllOver, AllWait, Deals, Fed, Feeds, HandedOne, Hands, PumpOver, PumpsOver, TrackStands, Waits}
+use Rattle.sf_record.specs.inner.InTurn.{InTurn}
+use Rattle.sf_record.specs.inner.Dealing.{AllOver, AllWait, Deals, DealtTo, Fed, Feeds, HandedOne, Hands, PumpOver, PumpsOver, TrackBegins, TrackStands, Waits}
 
 -- a track of those that are dealt can be fed
 pub feeds_of : {begun shelf : ShelfView} {state : State} {pumps : List Pumping} {series : OpenSeries} (k : ℕ) (pump : Pumping) → Deals begun state pumps series shelf → slice_get pumps k ≡ Some pump
@@ -265,3 +266,68 @@ dealt_same {pumps} {now} {series} {new} {shelf} {after} begun state same_pumps s
       (subst (λ (v : ShelfView). Deals begun state pumps series v) (sym same_shelf) d)),
   subst (λ (ps : List Pumping). AllOver ps) (sym same_pumps) over,
 )
+
+-- ---- what dealing came to
+
+track_begins : {setups : List TrackSetup} {state : State} {number : ℕ} {pump : Pumping} → TrackStands setups state number pump → TrackBegins setups state number pump
+track_begins {setups} {state} {number} {pump} t =
+    record {
+      setup = t.setup;
+      there = t.there;
+      hands = record {
+        track = t.hands.track;
+        ticks = t.hands.ticks;
+        taken = t.hands.taken;
+        goes = t.hands.goes;
+        rest = [];
+        first = sym t.hands.handed ∙ sym (append-nil (list_of state.handed number));
+      };
+    }
+
+-- all that was taken was handed
+pub dealt_to : {begun shelf : ShelfView} {state : State} {pumps : List Pumping} {series : OpenSeries} {T : Type 0} → Deals begun state pumps series shelf → (T → InTurn state) → DealtTo begun T pumps series shelf
+dealt_to {begun} {shelf} {state} {pumps} {series} {T} d turn =
+    record { state = state; some = d.stands.files.some; kept = d.kept; proper = d.proper; tracks = λ t pump at. track_begins (d.tracks t pump at); turn = turn; after = state; left = inl refl; stands = d.stands }
+
+-- one of the pumps gave a chunk that wasn't handed, or none
+pub dealt_but : {begun shelf : ShelfView} {state : State} {pumps : List Pumping} {series new : OpenSeries} {T : Type 0} (k : ℕ) (old now : Pumping) → Deals begun state pumps series shelf → slice_get pumps k ≡ Some old
+    → new ≡ series → TrackBegins new.files.setups state k now → (T → InTurn state) → DealtTo begun T (set pumps k now) new shelf
+dealt_but {begun} {shelf} {state} {pumps} {series} {new} {T} k old now d at same begins turn =
+    let of_old : (s : OpenSeries) → s ≡ series → Deals begun state pumps s shelf = λ s e. subst (λ (x : OpenSeries). Deals begun state pumps x shelf) (sym e) d in
+    let d_new : Deals begun state pumps new shelf = of_old new same in
+    record {
+      state = state;
+      some = d.stands.files.some;
+      kept = d_new.kept;
+      proper = d_new.proper;
+      tracks = λ t pump there. elim (cases_eq k t) [
+        | inl e ↦ (let is : now ≡ pump = some_same now pump (sym (read_set pumps k old now at) ∙ ap (λ (n : ℕ). slice_get (set pumps k now) n) e ∙ there) in
+            subst (λ (n : ℕ). TrackBegins new.files.setups state n pump) e (subst (λ (p : Pumping). TrackBegins new.files.setups state k p) is begins))
+        | inr other ↦ track_begins (d_new.tracks t pump (sym (read_other pumps k t now other) ∙ there))
+      ];
+      turn = turn;
+      after = state;
+      left = inl refl;
+      stands = d_new.stands;
+    }
+
+-- a write failed, or found no memory
+pub dealt_failed : {begun shelf after : ShelfView} {state : State} {pumps : List Pumping} {series new : OpenSeries} {T : Type 0} (closed : Bool) (fault : SeriesFault) → Deals begun state pumps series shelf → SameSetups series.files new.files
+    → new.fault ≡ Some fault → Breaks fault → SeriesStands begun (failed closed state) new after → (T → InTurn state) → DealtTo begun T pumps new after
+dealt_failed {begun} {shelf} {after} {state} {pumps} {series} {new} {T} closed fault d same is breaks stands turn =
+    record {
+      state = state;
+      some = d.stands.files.some;
+      kept = subst (λ (ls : Limits). Kept ls new.files.setups state) (sym same.limits) (subst (λ (ss : List TrackSetup). Kept series.files.limits ss state) (sym same.setups) d.kept);
+      proper = subst (λ (ss : List TrackSetup). AreProper ss state) (sym same.setups) d.proper;
+      tracks = λ t pump at. subst (λ (ss : List TrackSetup). TrackBegins ss state t pump) (sym same.setups) (track_begins (d.tracks t pump at));
+      turn = turn;
+      after = failed closed state;
+      left = inr (fault, is, breaks, (closed, refl));
+      stands = stands;
+    }
+
+-- where less has to hold for the turn
+pub dealt_by : {begun shelf : ShelfView} {pumps : List Pumping} {series : OpenSeries} {S T : Type 0} → (T → S) → DealtTo begun S pumps series shelf → DealtTo begun T pumps series shelf
+dealt_by {begun} {shelf} {pumps} {series} {S} {T} less d =
+    record { state = d.state; some = d.some; kept = d.kept; proper = d.proper; tracks = d.tracks; turn = λ t. d.turn (less t); after = d.after; left = d.left; stands = d.stands }

@@ -16,7 +16,7 @@ use Rattle.sf_series.specs.declared.report.Report.{Report}
 use Rattle.sf_interleave.specs.Waiting.{earliest_front}
 use Rattle.sf_interleave.proofs.WaitingLaws.{none_waits}
 use Rattle.sf_series.specs.Core.{State, failed, put_in, write, write_picked}
-use Rattle.sf_series.specs.Ending.{Broken, Finished, IsLeft, Stopped, written, written_out}
+use Rattle.sf_series.specs.Ending.{Broken, Finished, IsLeft, Reports, Stopped, written, written_out}
 use Rattle.sf_series.specs.Switching.{Put, Into, Next, Limit as PastLimit, files_after, put}
 use Rattle.sf_series.specs.Names.{file_name, names_to}
 use Rattle.sf_series.specs.Series.{Breaks, MeetsLimit, OpenSeries, Stands as SeriesStands}
@@ -30,8 +30,8 @@ use Rattle.sf_record.specs.declared.serial_end.SerialOutcome.{SerialOutcome}
 use Rattle.sf_record.specs.declared.serial_end.SerialOutcome.TheVariants.{Done, WriteFault, Limit, Refused, ReadFault, NoMemory}
 use Rattle.sf_record.specs.Pumping.{Pumping}
 use Rattle.sf_record.specs.Serial.{KeepsMade, answer_by, lowest_fault}
-use Rattle.sf_record.specs.inner.Dealing.{AllOver, Deals}
-use Rattle.sf_record.specs.inner.Finishing.{AsPumps, FinishedAtLimit, WriteEnds, outcome_by}
+use Rattle.sf_record.specs.inner.Dealing.{AllOver, Deals, DealtTo, LeftBy}
+use Rattle.sf_record.specs.inner.Finishing.{AsPumps, EndsEarly, FinishedAtFault, FinishedAtLimit, WriteEnds, outcome_by}
 use Rattle.sf_record.specs.inner.InTurn.{AllReady, InTurn}
 use Rattle.sf_record.proofs.Counted.{rose_behind, rose_later}
 
@@ -86,7 +86,10 @@ pub record Wrote (begun old mid after : ShelfView) (limits : Limits) (setups : L
   pub all : OnOk finished ((state : State) → SeriesStands begun state new mid → Finished begun new state report after)
   pub stopped : (shown : LimitShown) → finished ≡ Err (causes.Limit shown) → (state : State) → SeriesStands begun state new mid → Stopped begun new state shown report after
   pub broken : IfErr finished (λ fault. Breaks fault → (state : State) → SeriesStands begun state new mid → Broken begun new state report after)
+  pub dealt_to : DealtTo begun (Unit {0}) pumps new mid
   pub again : (fault : SeriesFault) → new.fault ≡ Some fault → Breaks fault → finished ≡ Err fault
+  pub stays : (fault : SeriesFault) → new.fault ≡ Some fault → Breaks fault → (state : State) → SeriesStands begun state new mid
+      → BrokenOn begun new.files.limits.stem new.files.setups state.files after × Reports new.files.setups state.files (closed_in state.files) report
   pub none : OnOk finished (new.fault ≡ None)
   pub failed : finished ≡ Err causes.WriteFault → (new.fault ≡ Some causes.WriteFault) ⊎ Rose mid.faults after.faults
   pub at_end : mid.faults ≤ after.faults
@@ -143,6 +146,32 @@ at_limit : {begun mid after : ShelfView} {limits : Limits} {setups : List TrackS
 at_limit {begun} {mid} {after} {limits} {setups} {pumps} {new} {report} shown state own deals ready turn ended stopped =
     record { dealt = record { series = new; state = state; shelf = mid; own = own; deals = deals; turn = turn }; ready = ready; ended = ended; stopped = stopped }
 
+-- how a series ends that stands for this state, by how it was finished
+ends_early : {begun old mid after : ShelfView} {limits : Limits} {setups : List TrackSetup} {pumps : List Pumping} {new : OpenSeries} {report : Report} (dealt finished : Result (Unit {0}) SeriesFault) (state : State) → Wrote begun old mid after limits setups pumps new dealt finished report
+    → SeriesStands begun state new mid → EndsEarly begun new state report after
+ends_early {begun} {old} {mid} {after} {limits} {setups} {pumps} {new} {report} dealt (Ok done) state w stands = inl (w.all state stands)
+ends_early {begun} {old} {mid} {after} {limits} {setups} {pumps} {new} {report} dealt (Err (causes.Limit shown)) state w stands = inr (inl (shown, w.stopped shown refl state stands))
+ends_early {begun} {old} {mid} {after} {limits} {setups} {pumps} {new} {report} dealt (Err causes.WriteFault) state w stands = inr (inr (w.broken tt state stands))
+ends_early {begun} {old} {mid} {after} {limits} {setups} {pumps} {new} {report} dealt (Err causes.NoMemory) state w stands = inr (inr (w.broken tt state stands))
+
+-- where a write failed before, the files of that moment stand
+ends_left : {begun old mid after : ShelfView} {limits : Limits} {setups : List TrackSetup} {pumps : List Pumping} {new : OpenSeries} {report : Report} (dealt finished : Result (Unit {0}) SeriesFault) (state left : State) → Wrote begun old mid after limits setups pumps new dealt finished report
+    → LeftBy new state left → SeriesStands begun left new mid → EndsEarly begun new state report after
+ends_left {begun} {old} {mid} {after} {limits} {setups} {pumps} {new} {report} dealt finished state left w by stands =
+    elim by [
+      | inl same ↦ ends_early dealt finished state w (subst (λ (s : State). SeriesStands begun s new mid) same stands)
+      | inr failed_so ↦ (let on = w.stays failed_so.0 failed_so.1 failed_so.2 left stands in
+          let zero_writes : IsLeft new state left = (0, inr failed_so.3) in
+          inr (inr (record { left = left; is_left = zero_writes; kept = on.0; reports = on.1 })))
+    ]
+
+-- what stands where not all chunks were dealt
+at_fault : {begun old mid after : ShelfView} {limits : Limits} {setups : List TrackSetup} {pumps : List Pumping} {new : OpenSeries} {report : Report} (dealt finished : Result (Unit {0}) SeriesFault) → Wrote begun old mid after limits setups pumps new dealt finished report
+    → FinishedAtFault begun limits setups pumps report after
+at_fault {begun} {old} {mid} {after} {limits} {setups} {pumps} {new} {report} dealt finished w =
+    let d : DealtTo begun (Unit {0}) pumps new mid = w.dealt_to in
+    record { series = new; state = d.state; own = w.own; some = d.some; turn = d.turn tt; kept = d.kept; proper = d.proper; tracks = d.tracks; ends = ends_left dealt finished d.state d.after w d.left d.stands }
+
 -- how it ends where writing failed
 failed_ends : {begun old mid after : ShelfView} {limits : Limits} {setups : List TrackSetup} {pumps : List Pumping} {new : OpenSeries} {report : Report} (dealt : Result (Unit {0}) SeriesFault) → Wrote begun old mid after limits setups pumps new dealt (Err causes.WriteFault) report → Rose old.faults after.faults
 failed_ends {begun} {old} {mid} {after} {limits} {setups} {pumps} {new} {report} dealt w =
@@ -169,7 +198,7 @@ no_write shown o either again =
 -- how it ends at a limit
 limit_ends : {begun old mid after : ShelfView} {limits : Limits} {setups : List TrackSetup} {pumps : List Pumping} {new : OpenSeries} {report : Report} (dealt : Result (Unit {0}) SeriesFault) (shown : LimitShown) (inputs : SerialOutcome) → Wrote begun old mid after limits setups pumps new dealt (Err (causes.Limit shown)) report
     → WriteEnds begun old limits setups pumps report after (outcome_by (Err (causes.Limit shown)) dealt inputs)
-limit_ends {begun} {old} {mid} {after} {limits} {setups} {pumps} {new} {report} (Err causes.NoMemory) shown inputs w = tt
+limit_ends {begun} {old} {mid} {after} {limits} {setups} {pumps} {new} {report} (Err causes.NoMemory) shown inputs w = at_fault (Err causes.NoMemory) (Err (causes.Limit shown)) w
 limit_ends {begun} {old} {mid} {after} {limits} {setups} {pumps} {new} {report} (Ok done) shown inputs w =
     let d = w.done in no_limit new.files.limits new.files.setups d.0 shown d.3 (w.stopped shown refl d.0 d.1.stands).met
 limit_ends {begun} {old} {mid} {after} {limits} {setups} {pumps} {new} {report} (Err (causes.Limit met)) shown inputs w =
@@ -179,7 +208,7 @@ limit_ends {begun} {old} {mid} {after} {limits} {setups} {pumps} {new} {report} 
 -- how it ends where the series was finished whole
 done_ends : {begun old mid after : ShelfView} {limits : Limits} {setups : List TrackSetup} {pumps : List Pumping} {new : OpenSeries} {report : Report} (dealt : Result (Unit {0}) SeriesFault) (finished : Unit {0}) (inputs : SerialOutcome) → inputs ≡ lowest_fault 0 (map (λ p. p.fault) pumps) → Wrote begun old mid after limits setups pumps new dealt (Ok finished) report
     → WriteEnds begun old limits setups pumps report after (outcome_by (Ok finished) dealt inputs)
-done_ends {begun} {old} {mid} {after} {limits} {setups} {pumps} {new} {report} (Err causes.NoMemory) finished inputs is w = tt
+done_ends {begun} {old} {mid} {after} {limits} {setups} {pumps} {new} {report} (Err causes.NoMemory) finished inputs is w = at_fault (Err causes.NoMemory) (Ok finished) w
 done_ends {begun} {old} {mid} {after} {limits} {setups} {pumps} {new} {report} (Err causes.WriteFault) finished inputs is w = not_whole new.fault causes.WriteFault w.none w.ended (λ e. cc)
 done_ends {begun} {old} {mid} {after} {limits} {setups} {pumps} {new} {report} (Err (causes.Limit met)) finished inputs is w = not_whole new.fault (causes.Limit met) w.none w.ended (λ e. cc)
 done_ends {begun} {old} {mid} {after} {limits} {setups} {pumps} {new} {report} (Ok done) finished inputs is w =
@@ -191,8 +220,8 @@ done_ends {begun} {old} {mid} {after} {limits} {setups} {pumps} {new} {report} (
 pub write_ends : {begun old mid after : ShelfView} {limits : Limits} {setups : List TrackSetup} {pumps : List Pumping} {new : OpenSeries} {report : Report} (dealt finished : Result (Unit {0}) SeriesFault) (inputs : SerialOutcome)
     → inputs ≡ lowest_fault 0 (map (λ p. p.fault) pumps) → Wrote begun old mid after limits setups pumps new dealt finished report
     → WriteEnds begun old limits setups pumps report after (outcome_by finished dealt inputs)
-write_ends {begun} {old} {mid} {after} {limits} {setups} {pumps} {new} {report} dealt (Err causes.WriteFault) inputs is w = failed_ends dealt w
-write_ends {begun} {old} {mid} {after} {limits} {setups} {pumps} {new} {report} dealt (Err causes.NoMemory) inputs is w = tt
+write_ends {begun} {old} {mid} {after} {limits} {setups} {pumps} {new} {report} dealt (Err causes.WriteFault) inputs is w = (failed_ends dealt w, at_fault dealt (Err causes.WriteFault) w)
+write_ends {begun} {old} {mid} {after} {limits} {setups} {pumps} {new} {report} dealt (Err causes.NoMemory) inputs is w = at_fault dealt (Err causes.NoMemory) w
 write_ends {begun} {old} {mid} {after} {limits} {setups} {pumps} {new} {report} dealt (Err (causes.Limit shown)) inputs is w = limit_ends dealt shown inputs w
 write_ends {begun} {old} {mid} {after} {limits} {setups} {pumps} {new} {report} dealt (Ok finished) inputs is w = done_ends dealt finished inputs is w
 
@@ -265,7 +294,7 @@ some_if : (b : Bool) (x y : State) → 1 ≤ length x.files → 1 ≤ length y.f
 some_if true x y of_x of_y = of_x
 some_if false x y of_x of_y = of_y
 
-some_written : (n : ℕ) (limits : Limits) (setups : List TrackSetup) (state : State) → 1 ≤ length state.files → 1 ≤ length (written n limits setups state).files
+pub some_written : (n : ℕ) (limits : Limits) (setups : List TrackSetup) (state : State) → 1 ≤ length state.files → 1 ≤ length (written n limits setups state).files
 some_written zero limits setups state some = some
 some_written (suc n) limits setups state some =
     some_if state.ended state (written n limits setups (write limits setups state)) some

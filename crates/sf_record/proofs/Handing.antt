@@ -28,7 +28,7 @@ use Rattle.sf_record.specs.Limits.{filled}
 use Rattle.sf_record.specs.Pumping.{Pumping, Stands, StepsTo, Works, given_chunks, left, turns_left}
 use Rattle.sf_record.specs.declared.pump.Stepped.{Stepped}
 use Rattle.sf_record.specs.declared.pump.Stepped.TheVariants.{Done, HasChunk, Moved, NoMemory}
-use Rattle.sf_record.specs.inner.Dealing.{Fed, Feeds, GoesOn, Hands, IsOver, NextIs, Took, Waits}
+use Rattle.sf_record.specs.inner.Dealing.{Fed, Feeds, GoesOn, Hands, IsOver, NextIs, Took, TrackBegins, Waits}
 
 -- ---- a pump of which a chunk is taken
 
@@ -229,6 +229,37 @@ fed_none {begun} {shelf} {state} {number} {pump} {after} {series} f given conten
       };
       waits = inr n.1;
     }
+
+-- chunks were taken of a pump after those that were handed
+begins_with : {begun shelf : ShelfView} {state : State} {number : ℕ} {pump after : Pumping} {series : OpenSeries} {setups : List TrackSetup} (f : Feeds begun shelf state number pump series) (taken rest : List Chunk) → after.given ≡ pump.given
+    → after.coded.source.content ≡ pump.coded.source.content → GoesOn pump.coded.source.content taken after → filled taken ≡ list_of state.handed number ++ rest → setups ≡ series.files.setups
+    → TrackBegins setups state number after
+begins_with {begun} {shelf} {state} {number} {pump} {after} {series} {setups} f taken rest given content more first same =
+    record {
+      setup = f.setup;
+      there = ap (λ (ss : List TrackSetup). slice_get ss number) same ∙ f.there;
+      hands = record {
+        track = ap (λ (g : Given). g.track) given ∙ f.hands.track;
+        ticks = ap (λ (g : Given). g.scale) given ∙ f.hands.ticks;
+        taken = taken;
+        goes = subst (λ (o : Option (List ℕ)). GoesOn o taken after) (sym content) more;
+        rest = rest;
+        first = first;
+      };
+    }
+
+-- a chunk was taken that isn't handed
+pub chunk_lost : {begun shelf : ShelfView} {state : State} {number : ℕ} {pump after : Pumping} {series : OpenSeries} {setups : List TrackSetup} (chunk : Chunk) (f : Feeds begun shelf state number pump series) → after.given ≡ pump.given
+    → after.coded.source.content ≡ pump.coded.source.content → Took pump.coded.source.content f.hands.taken chunk after → setups ≡ series.files.setups → TrackBegins setups state number after
+chunk_lost {begun} {shelf} {state} {number} {pump} {after} {series} {setups} chunk f given content t same =
+    begins_with f (f.hands.taken ++ chunk ∷ []) (filled (chunk ∷ [])) given content t.goes
+    (filled_more f.hands.taken chunk ∙ ap (λ (cs : List Chunk). cs ++ filled (chunk ∷ [])) (sym f.hands.handed)) same
+
+-- no chunk was taken
+pub none_lost : {begun shelf : ShelfView} {state : State} {number : ℕ} {pump after : Pumping} {series : OpenSeries} {setups : List TrackSetup} (f : Feeds begun shelf state number pump series) → after.given ≡ pump.given
+    → after.coded.source.content ≡ pump.coded.source.content → GoesOn pump.coded.source.content f.hands.taken after → setups ≡ series.files.setups → TrackBegins setups state number after
+none_lost {begun} {shelf} {state} {number} {pump} {after} {series} {setups} f given content more same =
+    begins_with f f.hands.taken [] given content more (sym f.hands.handed ∙ sym (append-nil (list_of state.handed number))) same
 
 -- how many chunks wait with one more
 many_with : (lists : List (List Chunk)) (t : ℕ) (c : Chunk) → how_many (set lists t (list_of lists t ++ c ∷ [])) ≤ how_many lists + 1

@@ -11,12 +11,15 @@ use Rattle.sf_interleave.specs.Waiting.{OfTheirTracks, earliest_front, list_of, 
 use Rattle.sf_interleave.proofs.WaitingLaws.{picked_first}
 use Rattle.sf_series.specs.declared.limits.Limits.{Limits}
 use Rattle.sf_series.specs.Core.{State, fresh, hand, is_filled, put_in, with_mark, write, write_picked}
+use Rattle.sf_series.specs.Ending.{written}
 use Rattle.sf_series.specs.Files.{flat}
+use Rattle.sf_series.specs.Kept.{Kept}
 use Rattle.sf_series.specs.Order.{in_order}
 use Rattle.sf_series.specs.Switching.{Put, Into, Next, Limit, put}
 use Rattle.sf_series.proofs.Proper.{mark_other}
-use Rattle.sf_series.proofs.SeriesLaws.{flat_into, flat_next, order_next, order_none, same_fronts}
+use Rattle.sf_series.proofs.SeriesLaws.{flat_into, flat_next, order_next, order_none, same_fronts, write_kept}
 use Rattle.sf_series.proofs.Standing.{taken as with_taken}
+use Rattle.sf_series.proofs.WrittenOut.{written_keeps}
 use Rattle.sf_record.specs.inner.InTurn.{AllReady, InTurn, MayCome, with_rests}
 
 -- ---- lists with more behind each
@@ -190,6 +193,37 @@ all_turn state turn none =
     ap (λ (lists : List (List Chunk)). in_order lists) (sym (rests_none 0 state.handed)) ∙ turn (λ t. []) (none_come state.marks)
     ∙ ap (λ (lists : List (List Chunk)). flat state.files ++ in_order lists) (rests_none 0 state.pending)
     ∙ ap (λ (cs : List Chunk). flat state.files ++ cs) (order_none state.pending none) ∙ append-nil (flat state.files)
+
+-- the chunks in files and then those that wait, in order, are those that were handed
+abbrev pub InLine : State → Type 0
+InLine state = in_order state.handed ≡ flat state.files ++ in_order state.pending
+
+-- so it is where chunks are written in turn
+pub turn_line : (state : State) → InTurn state → InLine state
+turn_line state turn =
+    ap (λ (lists : List (List Chunk)). in_order lists) (sym (rests_none 0 state.handed)) ∙ turn (λ t. []) (none_come state.marks)
+    ∙ ap (λ (lists : List (List Chunk)). flat state.files ++ in_order lists) (rests_none 0 state.pending)
+
+line_put : (state : State) (c : Chunk) (p : Put) → OfTheirTracks 0 state.pending → earliest_front state.pending ≡ Some c → InLine state → InLine (put_in state c p)
+line_put state c Into theirs e line =
+    line ∙ ap (λ (cs : List Chunk). flat state.files ++ cs) (order_next state.pending c theirs e)
+    ∙ sym (append_assoc (flat state.files) (c ∷ []) (in_order (without_front state.pending c.track)))
+    ∙ ap (λ (cs : List Chunk). cs ++ in_order (without_front state.pending c.track)) (sym (flat_into state.files c))
+line_put state c Next theirs e line =
+    line ∙ ap (λ (cs : List Chunk). flat state.files ++ cs) (order_next state.pending c theirs e)
+    ∙ sym (append_assoc (flat state.files) (c ∷ []) (in_order (without_front state.pending c.track)))
+    ∙ ap (λ (cs : List Chunk). cs ++ in_order (without_front state.pending c.track)) (sym (flat_next state.files c))
+line_put state c (Limit shown) theirs e line = line
+
+line_picked : (limits : Limits) (setups : List TrackSetup) (state : State) (o : Option Chunk) → earliest_front state.pending ≡ o → OfTheirTracks 0 state.pending → InLine state → InLine (write_picked limits setups state o)
+line_picked limits setups state None e theirs line = line
+line_picked limits setups state (Some c) e theirs line = line_put state c (put limits setups state.files c) theirs e line
+
+-- several writes keep it, whatever comes no more
+pub line_written : (n : ℕ) (limits : Limits) (setups : List TrackSetup) (state : State) → Kept limits setups state → InLine state → InLine (written n limits setups state)
+line_written n limits setups state kept line =
+    (written_keeps (λ s. Kept limits setups s × InLine s) n limits setups state
+    (λ s h. (write_kept limits setups s h.0, line_picked limits setups s (earliest_front s.pending) refl h.0.theirs h.1)) (kept, line)).1
 
 lists_with : (number : ℕ) (lists handed : List (List Chunk)) (rests : ℕ → List Chunk) → length lists ≡ length handed → ((t : ℕ) → t < length handed → list_of lists t ≡ list_of handed t ++ rests (number + t)) → lists ≡ with_rests number handed rests
 lists_with number [] [] rests long each = refl

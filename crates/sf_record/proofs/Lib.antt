@@ -20,3 +20,5 @@ pub mod Stopped
 pub mod InTurn
 pub mod Ready
 pub mod Called
+pub mod Faulted
+pub mod Told

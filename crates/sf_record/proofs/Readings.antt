@@ -1,8 +1,9 @@
 -- What was read of the inputs of pumps, of which all that was taken was handed to a series.
 use Rattle.std.proofs.Common.{◌≡◌, ℕ, zero, suc, ◌+◌, ◌<◌, ◌⊎◌, Bool, true, false, cond, List, [], ◌∷◌, ◌++◌, length, map, Option, Some, None, refl, sym, ap, subst, ◌∙◌, inl, inr, arith, append-nil, append_assoc}
-use Rattle.std.specs.Prelude.{get_or, slice_get, nat_lt, IfSome}
+use Rattle.std.specs.Prelude.{get_or, replicate, slice_get, nat_lt, IfSome}
 use Rattle.std.specs.List.{AllByRecursion}
 use Rattle.std.specs.Option.{option_to_list}
+use Rattle.std.proofs.lemmas.List.{get_or-replicate}
 use Rattle.std.proofs.lemmas.List.Elements.{filter-append}
 use Rattle.sf_tick.specs.declared.types.Chunk.{Chunk}
 use Rattle.sf_tick.specs.declared.types.Stored.{Stored}
@@ -24,7 +25,7 @@ use Rattle.sf_record.specs.Pumping.{Ended, Gathers, Pumping, Works, given_chunks
 use Rattle.sf_record.specs.Reading.{EndsBy}
 use Rattle.sf_record.specs.Said.{Said, behind_header, said_in}
 use Rattle.sf_record.specs.Serial.{AllRead, FirstOf, Opens, SaysIn, WasRead, lists_of}
-use Rattle.sf_record.specs.inner.Dealing.{Hands, IsOver, PumpOver, PumpsOver}
+use Rattle.sf_record.specs.inner.Dealing.{Hands, HandsFirst, IsOver, PumpOver, PumpsOver}
 use Rattle.sf_record.specs.inner.Opening.{AllOpened, IsOpened}
 use Rattle.sf_record.proofs.Counted.{rose_behind}
 use Rattle.sf_record.proofs.Handing.{bool_tells, unmarked_from}
@@ -359,4 +360,81 @@ all_first track options (b ∷ before) (s ∷ setups) state (f ∷ firsts) (p �
       lists = firsts_next state (lists_of (track + 1) options setups more.reads) track one.rest more.rests one.first more.lists;
       theirs = theirs_each track one.rest more.rests one.theirs more.theirs;
       none = none_each state.marks track one.rest more.rests one.none more.none;
+    }
+
+-- ---- pumps of which more was taken than was handed
+
+-- What an input says is known, of which the chunks that were handed are the first, whatever else was taken.
+pub record IsBegun (track : ℕ) (options : Options) (before : SourceView) (setup : TrackSetup) (state : State) (pump : Pumping) : Type 0 where
+  pub read : Said
+  pub was : WasRead track options before pump.coded.source read
+  pub own : read.setup ≡ Some setup
+  pub rest : List Chunk
+  pub first : filled (chunks (given_of track setup options) read.samples) ≡ list_of state.handed track ++ rest
+
+-- a state in which these chunks were handed of each track up to one
+abbrev pub handed_to : State → ℕ → List Chunk → State
+handed_to state track taken = record state { handed = replicate (suc track) (filled taken); marks = replicate (suc track) (ends_marked taken) }
+
+hands_all : {contents : Option (List ℕ)} {track scale : ℕ} {state : State} {pump : Pumping} (h : HandsFirst contents track scale state pump) → Hands contents track scale (handed_to state track h.taken) pump
+hands_all {contents} {track} {scale} {state} {pump} h =
+    record {
+      track = h.track;
+      ticks = h.ticks;
+      taken = h.taken;
+      goes = h.goes;
+      handed = get_or-replicate {A = List Chunk} (suc track) track (filled h.taken) [] (omega arith);
+      mark = get_or-replicate {A = Bool} (suc track) track (ends_marked h.taken) false (omega arith);
+    }
+
+begun_first : {track : ℕ} {options : Options} {before : SourceView} {setup : TrackSetup} {first pump : Pumping} {state : State} → IsOpened track options before setup first → PumpOver first pump
+    → HandsFirst pump.coded.source.content track setup.scale state pump → IsBegun track options before setup state pump
+unfolding hands_all
+begun_first {track} {options} {before} {setup} {first} {pump} {state} opened over h =
+    let all : Hands pump.coded.source.content track setup.scale (handed_to state track h.taken) pump = hands_all h in
+    let one : IsFirst track options before setup (handed_to state track h.taken) pump = works_first opened over all pump.gatherer all.goes.1.works in
+    record {
+      read = one.read;
+      was = one.was;
+      own = one.own;
+      rest = h.rest ++ one.rest;
+      first = one.first ∙ ap (λ (cs : List Chunk). cs ++ one.rest) (all.handed ∙ h.first) ∙ append_assoc (list_of state.handed track) h.rest one.rest;
+    }
+
+-- What several inputs say is known, of which the chunks that were handed are the first.
+pub record AreBegun (track : ℕ) (options : Options) (before : List SourceView) (setups : List TrackSetup) (state : State) (pumps : List Pumping) : Type 0 where
+  pub reads : List Said
+  pub read : AllRead track options before (map (λ p. p.coded.source) pumps) reads
+  pub taken : map (λ r. r.setup) reads ≡ map Some setups
+  pub rests : ℕ → List Chunk
+  pub lists : (n : ℕ) → n < length setups → list_of (lists_of track options setups reads) n ≡ list_of state.handed (track + n) ++ rests n
+
+-- of the pumps of tracks that are numbered from here on, the first chunks that were taken were handed
+abbrev pub FirstHanded : ℕ → List TrackSetup → State → List Pumping → Type 0
+FirstHanded track setups state pumps = (n : ℕ) (setup : TrackSetup) (pump : Pumping) → slice_get setups n ≡ Some setup → slice_get pumps n ≡ Some pump
+    → HandsFirst pump.coded.source.content (track + n) setup.scale state pump
+
+pub first_at : {contents : Option (List ℕ)} {a b scale : ℕ} {state : State} {pump : Pumping} → a ≡ b → HandsFirst contents a scale state pump → HandsFirst contents b scale state pump
+first_at {contents} {a} {b} {scale} {state} {pump} e h = subst (λ (n : ℕ). HandsFirst contents n scale state pump) e h
+
+pub all_begun : (track : ℕ) (options : Options) (before : List SourceView) (setups : List TrackSetup) (state : State) (firsts pumps : List Pumping) → AllOpened track options before setups firsts → PumpsOver firsts pumps
+    → FirstHanded track setups state pumps → AreBegun track options before setups state pumps
+all_begun track options [] [] state [] [] all over handed = record { reads = []; read = tt; taken = refl; rests = λ n. []; lists = λ n less. absurd (omega (arith, less)) }
+all_begun track options [] [] state [] (p ∷ pumps) all over handed = absurd over
+all_begun track options [] [] state (f ∷ firsts) pumps all over handed = absurd all
+all_begun track options [] (s ∷ setups) state firsts pumps all over handed = absurd all
+all_begun track options (b ∷ before) [] state firsts pumps all over handed = absurd all
+all_begun track options (b ∷ before) (s ∷ setups) state [] pumps all over handed = absurd all
+all_begun track options (b ∷ before) (s ∷ setups) state (f ∷ firsts) [] all over handed = absurd over
+all_begun track options (b ∷ before) (s ∷ setups) state (f ∷ firsts) (p ∷ pumps) all over handed =
+    let here : track + 0 ≡ track = omega arith in
+    let one : IsBegun track options b s state p = begun_first all.0 over.0 (first_at here (handed 0 s p refl refl)) in
+    let more : AreBegun (track + 1) options before setups state pumps =
+    all_begun (track + 1) options before setups state firsts pumps all.1 over.1 (λ n setup pump at there. let e : track + suc n ≡ (track + 1) + n = omega arith in first_at e (handed (suc n) setup pump at there)) in
+    record {
+      reads = one.read ∷ more.reads;
+      read = (one.was, more.read);
+      taken = ap (λ (o : Option TrackSetup). o ∷ map (λ r. r.setup) more.reads) one.own ∙ ap (λ (os : List (Option TrackSetup)). Some s ∷ os) more.taken;
+      rests = rests_next one.rest more.rests;
+      lists = firsts_next state (lists_of (track + 1) options setups more.reads) track one.rest more.rests one.first more.lists;
     }

@@ -1,8 +1,7 @@
 -- How the recording of several inputs ends whose headers are taken.
-use Rattle.std.proofs.Common.{◌≡◌, ℕ, zero, suc, ◌+◌, ◌*◌, ◌^◌, ◌<◌, ◌≤◌, Bool, true, false, List, [], ◌∷◌, ◌++◌, length, map, drop, Option, Some, None, refl, sym, ap, subst, ◌∙◌, inl, inr, arith, append-nil}
+use Rattle.std.proofs.Common.{◌≡◌, ℕ, zero, suc, ◌+◌, ◌*◌, ◌^◌, ◌<◌, ◌≤◌, Bool, true, false, List, [], ◌∷◌, ◌++◌, length, map, Option, Some, None, refl, sym, ap, subst, ◌∙◌, inl, inr, arith, append-nil}
 use Rattle.std.specs.Prelude.{get_or, slice_get, sum_by}
 use Rattle.std.specs.List.{AllByRecursion}
-use Rattle.std.proofs.lemmas.Bool.{cases_lt}
 use Rattle.std.proofs.lemmas.List.{get_or-replicate}
 use Rattle.std.proofs.lemmas.List.Sums.{sum_by-cons}
 use Rattle.sf_tick.specs.declared.types.Chunk.{Chunk}
@@ -13,7 +12,7 @@ use Rattle.sf_gather.specs.declared.given.Given.{Given}
 use Rattle.sf_gather.specs.declared.given.Options.{Options}
 use Rattle.sf_interleave.specs.Waiting.{how_many, list_of}
 use Rattle.sf_world.specs.Counts.{Rose}
-use Rattle.sf_world.specs.Views.{ShelfView, SourceView, Unchanged}
+use Rattle.sf_world.specs.Views.{KeptAtMost, ShelfView, SourceView, Unchanged}
 use Rattle.sf_series.specs.declared.faults.SeriesFault.{SeriesFault}
 use Rattle.sf_series.specs.declared.faults.SeriesFault.TheVariants as causes
 use Rattle.sf_series.specs.declared.limits.Limits.{Limits}
@@ -22,6 +21,7 @@ use Rattle.sf_series.specs.declared.report.Report.{Report}
 use Rattle.sf_series.specs.Core.{State, fresh}
 use Rattle.sf_series.specs.Ending.{IsKept, Reports, written_out}
 use Rattle.sf_series.specs.Files.{flat}
+use Rattle.sf_series.specs.Names.{file_name}
 use Rattle.sf_series.specs.Order.{in_order}
 use Rattle.sf_series.specs.Shelved.{AllKept}
 use Rattle.sf_series.specs.Switching.{closed_length, passes, switched}
@@ -29,27 +29,27 @@ use Rattle.sf_series.specs.Fitting.{AreProper, Fits}
 use Rattle.sf_series.specs.Kept.{Kept}
 use Rattle.sf_series.specs.ReadBack.{Begin, WholeReadBack}
 use Rattle.sf_series.specs.Series.{IsNothing, MeetsLimit, OpenSeries, Stands as SeriesStands}
+use Rattle.sf_layout.specs.Layout.{samples_of}
 use Rattle.sf_series.proofs.Proper.{found_inside}
-use Rattle.sf_series.proofs.SeriesLaws.{finished_back, fresh_kept, fresh_proper, stopped_back, switched_ends}
+use Rattle.sf_series.proofs.SeriesLaws.{all_written, finished_back, fresh_kept, fresh_proper, stopped_back, switched_ends}
 use Rattle.sf_series.proofs.WrittenOut.{written_ended}
 use Rattle.sf_record.specs.declared.faults.TrackFault.{TrackFault}
 use Rattle.sf_record.specs.declared.serial_end.SerialOutcome.{SerialOutcome}
 use Rattle.sf_record.specs.declared.serial_end.SerialOutcome.TheVariants.{Done, WriteFault, Limit, Refused, ReadFault, NoMemory}
 use Rattle.sf_record.specs.Pumping.{Pumping}
 use Rattle.sf_record.specs.Said.{Said}
-use Rattle.sf_record.specs.Serial.{ComeBack, FitsNothing, FollowOrder, Opens, Recorded, RecordsToLimit, SerialEnds, asked_for, gave, lists_of, lowest_fault}
+use Rattle.sf_record.specs.Serial.{ComeBack, FitsNothing, FollowOrder, Opens, Recorded, RecordsToLimit, SerialEnds, TellsNone, asked_for, gave, lists_of, lowest_fault}
 use Rattle.sf_record.specs.inner.Dealing.{Deals, Hands, PumpsOver, TrackStands}
 use Rattle.sf_record.specs.inner.Finishing.{AsPumps, FinishedAll, FinishedAtLimit, WriteEnds, unbegun}
 use Rattle.sf_record.specs.inner.Opening.{AllOpened, IsOpened}
 use Rattle.sf_record.specs.inner.InTurn.{MayCome}
 use Rattle.sf_record.proofs.Counted.{rose_behind}
+use Rattle.sf_record.proofs.Faulted.{fault_recorded, fits_own, lists_begin, lists_long, some_same}
 use Rattle.sf_record.proofs.Finishing.{out_none}
 use Rattle.sf_record.proofs.InTurn.{all_turn, next_turn}
 use Rattle.sf_record.proofs.Opened.{opened_long}
+use Rattle.sf_record.proofs.Told.{told_of}
 use Rattle.sf_record.proofs.Readings.{AreFirst, AreRead, TakenHanded, all_first, all_read, hands_at}
-
-some_same : {A : Type 0} (x y : A) → Some x ≡ Some y → x ≡ y
-some_same {A} x y e = cc
 
 -- A track of opened inputs.
 pub record OpenedAt (number : ℕ) (options : Options) (setups : List TrackSetup) (before : List SourceView) (n : ℕ) (pump : Pumping) : Type 0 where
@@ -144,22 +144,12 @@ fresh_deals {setups} {begun} {shelf} {series} options before pumps all stands ow
 
 -- ---- lists that are the same
 
-list_beyond : (xs : List (List Chunk)) (n : ℕ) → length xs ≤ n → list_of xs n ≡ []
-list_beyond [] n le = refl
-list_beyond (x ∷ xs) zero le = absurd (omega (arith, le))
-list_beyond (x ∷ xs) (suc n) le = list_beyond xs n (omega (arith, le))
-
 lists_same : (xs ys : List (List Chunk)) → length xs ≡ length ys → ((n : ℕ) → n < length xs → list_of xs n ≡ list_of ys n) → xs ≡ ys
 lists_same [] [] long same = refl
 lists_same [] (y ∷ ys) long same = absurd (omega (arith, long))
 lists_same (x ∷ xs) [] long same = absurd (omega (arith, long))
 lists_same (x ∷ xs) (y ∷ ys) long same =
     ap (λ (l : List Chunk). l ∷ xs) (same 0 (omega arith)) ∙ ap (λ (ls : List (List Chunk)). y ∷ ls) (lists_same xs ys (omega (arith, long)) (λ n less. same (suc n) (omega (arith, less))))
-
-lists_long : (track : ℕ) (options : Options) (setups : List TrackSetup) (reads : List Said) → map (λ r. r.setup) reads ≡ map Some setups → length (lists_of track options setups reads) ≡ length setups
-lists_long track options [] reads e = refl
-lists_long track options (s ∷ setups) [] e = cc
-lists_long track options (s ∷ setups) (r ∷ reads) e = ap (λ (n : ℕ). suc n) (lists_long (track + 1) options setups reads (ap (λ (os : List (Option TrackSetup)). drop 1 os) e))
 
 -- ---- all inputs were recorded, or up to a limit
 
@@ -168,9 +158,6 @@ taken_handed {begun} {shelf} {state} {pumps} {series} {setups} d own n setup pum
     let t = d.tracks n pump there in
     let same : t.setup ≡ setup = some_same t.setup setup (sym t.there ∙ ap (λ (ss : List TrackSetup). slice_get ss n) own ∙ at) in
     hands_at {b = 0 + n} (omega arith) (subst (λ (s : TrackSetup). Hands pump.coded.source.content n s.scale state pump) same t.hands)
-
-fits_own : {limits : Limits} {setups : List TrackSetup} (series : OpenSeries) → (series.files.setups ≡ setups) × (series.files.limits ≡ limits) → Fits limits setups → Fits series.files.limits series.files.setups
-fits_own {limits} {setups} series own fits = subst (λ (l : Limits). Fits l series.files.setups) (sym own.1) (subst (λ (ss : List TrackSetup). Fits limits ss) (sym own.0) fits)
 
 begin_same : (lists : List (List Chunk)) → Begin lists lists
 begin_same lists t = ([], sym (append-nil (list_of lists t)))
@@ -219,6 +206,18 @@ follow_all {options} {before} {sources} {begun} {after} {limits} {setups} {pumps
       reports = files.reports;
     }
 
+-- the report tells how many samples were read of each input
+counts_told : (options : Options) {begun after : ShelfView} {limits : Limits} {setups : List TrackSetup} {pumps : List Pumping} {report : Report} (f : FinishedAll begun limits setups pumps report after) (reads : List Said) → map (λ r. r.setup) reads ≡ map Some setups
+    → f.dealt.state.handed ≡ lists_of 0 options setups reads → report.tracks ≡ map (λ r. length r.samples) reads
+counts_told options {begun} {after} {limits} {setups} {pumps} {report} f reads taken same =
+    let d = f.dealt in
+    let kept : Kept limits setups d.state = kept_own d.series d.own d.deals.kept in
+    let files : KeptFiles begun limits setups d.state.files report after =
+    files_kept d.series d.state (written_out d.series.files.limits d.series.files.setups d.state) d.own (out_none d.series.files.limits d.series.files.setups d.state f.none) f.finished.kept in
+    told_of 0 options setups reads report.tracks taken files.reports.one_each
+    (λ t less. files.reports.tracks t less
+    ∙ ap (λ (cs : List Chunk). Some (length (samples_of cs))) (all_written limits setups d.state t kept f.none ∙ ap (λ (ls : List (List Chunk)). list_of ls t) same))
+
 pub all_recorded : {setups : List TrackSetup} {pumps : List Pumping} {begun after : ShelfView} {limits : Limits} {report : Report} (options : Options) (before : List SourceView) (firsts : List Pumping) (outcome : SerialOutcome)
     → AllOpened 0 options before setups firsts → PumpsOver firsts pumps → Fits limits setups → passes limits.max_bytes (closed_length setups []) ≡ false → AsPumps begun limits setups pumps report after outcome
     → Recorded (asked_for options limits before begun) (gave (map (λ p. p.coded.source) pumps) after report) outcome
@@ -233,20 +232,13 @@ all_recorded {setups} {pumps} {begun} {after} {limits} {report} options before f
     lists_same d.state.handed lists (long ∙ sym (lists_long 0 options setups r.reads r.taken)) (λ n less. ap (λ (k : ℕ). list_of d.state.handed k) (omega arith) ∙ r.lists n (omega (arith, less, long))) in (
       setups,
       r.reads,
-      record { read = r.read; taken = r.taken; series = d.series; own = d.own; back = whole_back f lists fits same; follow = follow_all f lists under same },
+      record { read = r.read; taken = r.taken; series = d.series; own = d.own; back = whole_back f lists fits same; follow = follow_all f lists under same; told = counts_told options f r.reads r.taken same },
       so.1 ∙ ap (λ (fs : List (Option TrackFault)). lowest_fault 0 fs) (sym r.faults),
     )
 
 first_lists : {options : Options} {before : List SourceView} {setups : List TrackSetup} {state : State} {pumps : List Pumping} (r : AreFirst 0 options before setups state pumps) → length state.handed ≡ length setups
     → Begin state.handed (lists_of 0 options setups r.reads)
-first_lists {options} {before} {setups} {state} {pumps} r long t =
-    let lists = lists_of 0 options setups r.reads in
-    let same = lists_long 0 options setups r.reads r.taken in
-    let zero_t : 0 + t ≡ t = omega arith in
-    elim (cases_lt t (length setups)) [
-      | inl less ↦ (r.rests t, r.lists t less ∙ ap (λ (k : ℕ). list_of state.handed k ++ r.rests t) zero_t)
-      | inr not ↦ ([], list_beyond lists t (omega (arith, same, not)) ∙ sym (append-nil (list_of state.handed t) ∙ list_beyond state.handed t (omega (arith, long, not))))
-    ]
+first_lists {options} {before} {setups} {state} {pumps} r long = lists_begin options setups state r.reads r.rests r.taken r.lists long
 
 -- chunks were written in their order up to the one that met a limit
 follow_limit : {options : Options} {before sources : List SourceView} {begun after : ShelfView} {limits : Limits} {setups : List TrackSetup} {pumps : List Pumping} {report : Report} (shown : LimitShown)
@@ -301,15 +293,15 @@ pub serial_ends : {setups : List TrackSetup} {limits : Limits} (options : Option
     → AllOpened 0 options before setups firsts → PumpsOver firsts pumps → Fits limits setups → passes limits.max_bytes (closed_length setups []) ≡ false → begun.faults ≤ mid.faults → WriteEnds begun mid limits setups pumps report after outcome
     → SerialEnds (asked_for options limits before begun) (gave (map (λ p. p.coded.source) pumps) after report) outcome
 serial_ends {setups} {limits} options before firsts pumps begun mid after report Done all over fits under later w = all_recorded options before firsts Done all over fits under w
-serial_ends {setups} {limits} options before firsts pumps begun mid after report WriteFault all over fits under later w = rose_behind _ _ _ later w
+serial_ends {setups} {limits} options before firsts pumps begun mid after report WriteFault all over fits under later w = (rose_behind _ _ _ later w.0, inr (fault_recorded options before firsts all over fits under w.1))
 serial_ends {setups} {limits} options before firsts pumps begun mid after report (Limit shown) all over fits under later w = inr (limit_recorded options before firsts shown all over fits under w)
 serial_ends {setups} {limits} options before firsts pumps begun mid after report (Refused track fault) all over fits under later w = inr (all_recorded options before firsts (Refused track fault) all over fits under w)
 serial_ends {setups} {limits} options before firsts pumps begun mid after report (ReadFault input) all over fits under later w = inr (all_recorded options before firsts (ReadFault input) all over fits under w)
-serial_ends {setups} {limits} options before firsts pumps begun mid after report NoMemory all over fits under later w = tt
+serial_ends {setups} {limits} options before firsts pumps begun mid after report NoMemory all over fits under later w = inr (inr (fault_recorded options before firsts all over fits under w))
 
 -- no file is made where not even an empty one is within the limit of bytes
 pub nothing_fits : {setups : List TrackSetup} {begun after : ShelfView} {limits : Limits} {report : Report} (options : Options) (before : List SourceView) (pumps : List Pumping) (sources : List SourceView) (shown : LimitShown)
-    → AllOpened 0 options before setups pumps → IsNothing limits setups shown → after ≡ begun → report.files ≡ [] → FitsNothing (asked_for options limits before begun) (gave sources after report) shown
+    → AllOpened 0 options before setups pumps → IsNothing limits setups shown → after ≡ begun → TellsNone (asked_for options limits before begun) report → FitsNothing (asked_for options limits before begun) (gave sources after report) shown
 nothing_fits {setups} {begun} {after} {limits} {report} options before pumps sources shown all nothing same none =
     record {
       setups = setups;
@@ -341,12 +333,12 @@ come_back track options (b ∷ before) (s ∷ setups) (f ∷ firsts) (p ∷ pump
 
 -- the answer where no series is begun
 pub unbegun_ends : (options : Options) (before : List SourceView) (setups : List TrackSetup) (pumps : List Pumping) (begun after : ShelfView) (limits : Limits) (report : Report) (sources : List SourceView) (fault : SeriesFault)
-    → AllOpened 0 options before setups pumps → (fault ≡ causes.WriteFault → Rose begun.faults after.faults) → ((shown : LimitShown) → fault ≡ causes.Limit shown → IsNothing limits setups shown × (after ≡ begun)) → report.files ≡ []
-    → SerialEnds (asked_for options limits before begun) (gave sources after report) (unbegun fault)
-unbegun_ends options before setups pumps begun after limits report sources causes.WriteFault all write nothing none = write refl
-unbegun_ends options before setups pumps begun after limits report sources (causes.Limit shown) all write nothing none =
+    → AllOpened 0 options before setups pumps → (fault ≡ causes.WriteFault → Rose begun.faults after.faults) → ((shown : LimitShown) → fault ≡ causes.Limit shown → IsNothing limits setups shown × (after ≡ begun)) → TellsNone (asked_for options limits before begun) report
+    → KeptAtMost (file_name limits.stem 1) begun after → SerialEnds (asked_for options limits before begun) (gave sources after report) (unbegun fault)
+unbegun_ends options before setups pumps begun after limits report sources causes.WriteFault all write nothing none made = (write refl, inl (record { made = made; none = none }))
+unbegun_ends options before setups pumps begun after limits report sources (causes.Limit shown) all write nothing none made =
     let n = nothing shown refl in inl (nothing_fits options before pumps sources shown all n.0 n.1 none)
-unbegun_ends options before setups pumps begun after limits report sources causes.NoMemory all write nothing none = tt
+unbegun_ends options before setups pumps begun after limits report sources causes.NoMemory all write nothing none made = inr (inl (record { made = made; none = none }))
 
 pub over_long : (firsts pumps : List Pumping) → PumpsOver firsts pumps → length pumps ≡ length firsts
 over_long [] [] over = refl

@@ -16,7 +16,7 @@ use Rattle.sf_record.specs.declared.opening.Untaken.TheVariants.{Fault, NoMemory
 use Rattle.sf_record.specs.Input.{IsOfBytes, read_fault}
 use Rattle.sf_record.specs.Pumping.{Pumping}
 use Rattle.sf_record.specs.Said.{Said, said_in}
-use Rattle.sf_record.specs.Serial.{Asked, ComeBack, EndsAtHeader, Gave, HasFault, Opens, SerialEnds, answer_by, asked_for, gave}
+use Rattle.sf_record.specs.Serial.{Asked, ComeBack, EndsAtHeader, Gave, HasFault, Opens, SerialEnds, TellsNone, answer_by, asked_for, gave}
 use Rattle.sf_record.specs.inner.Finishing.{untaken_as}
 use Rattle.sf_record.specs.inner.Opening.{AllOpened, IsUntaken, StopsAt}
 use Rattle.sf_record.proofs.Opened.{opened_long}
@@ -77,7 +77,7 @@ opens_below track options (b ∷ before) (s ∷ setups) (p ∷ pumps) more (suc 
     (o.0, subst (λ (k : ℕ). Opens k options source.content o.0) here o.1)
 
 ends_at : {options : Options} {before : List SourceView} {setups : List TrackSetup} {pumps : List Pumping} {rest : List SourceView} {untaken : Untaken} (limits : Limits) (shelf : ShelfView) (report : Report) (fault : TrackFault) (number : ℕ)
-    (s : StopsAt options before setups pumps rest untaken) → number ≡ length pumps → report.files ≡ [] → HasFault (length s.taken) options s.first s.after fault
+    (s : StopsAt options before setups pumps rest untaken) → number ≡ length pumps → TellsNone (asked_for options limits before shelf) report → HasFault (length s.taken) options s.first s.after fault
     → EndsAtHeader (asked_for options limits before shelf) (gave (map (λ p. p.coded.source) pumps ++ rest) shelf report) number fault
 ends_at {options} {before} {setups} {pumps} {rest} {untaken} limits shelf report fault number s is none has =
     let long = opened_long 0 options s.taken setups pumps s.opened in
@@ -100,15 +100,15 @@ ends_at {options} {before} {setups} {pumps} {rest} {untaken} limits shelf report
     }
 
 untaken_by : {options : Options} {before : List SourceView} {setups : List TrackSetup} {pumps : List Pumping} {rest : List SourceView} {all : Untaken} (limits : Limits) (shelf : ShelfView) (report : Report) (untaken : Untaken) (number : ℕ)
-    (s : StopsAt options before setups pumps rest all) → number ≡ length pumps → report.files ≡ [] → IsUntaken (length s.taken) options s.first s.after untaken
+    (s : StopsAt options before setups pumps rest all) → number ≡ length pumps → TellsNone (asked_for options limits before shelf) report → IsUntaken (length s.taken) options s.first s.after untaken
     → SerialEnds (asked_for options limits before shelf) (gave (map (λ p. p.coded.source) pumps ++ rest) shelf report) (untaken_as number untaken)
 untaken_by {options} {before} {setups} {pumps} {rest} {all} limits shelf report (Fault fault) number s is none why =
     ends_by fault.why number fault (read_told fault why) refl (ends_at limits shelf report fault number s is none why)
-untaken_by {options} {before} {setups} {pumps} {rest} {all} limits shelf report NoMemory number s is none why = tt
+untaken_by {options} {before} {setups} {pumps} {rest} {all} limits shelf report NoMemory number s is none why = inr (inl (record { made = inl (record { named = refl; kept = refl }); none = none }))
 
 -- how the recording ends where a header isn't taken
 pub untaken_ends : {options : Options} {before : List SourceView} {setups : List TrackSetup} {pumps : List Pumping} {rest : List SourceView} {untaken : Untaken} (limits : Limits) (shelf : ShelfView) (report : Report) (number : ℕ)
-    → StopsAt options before setups pumps rest untaken → number ≡ length pumps → report.files ≡ []
+    → StopsAt options before setups pumps rest untaken → number ≡ length pumps → TellsNone (asked_for options limits before shelf) report
     → SerialEnds (asked_for options limits before shelf) (gave (map (λ p. p.coded.source) pumps ++ rest) shelf report) (untaken_as number untaken)
 untaken_ends {options} {before} {setups} {pumps} {rest} {untaken} limits shelf report number s is none = untaken_by limits shelf report untaken number s is none s.why
 

@@ -1,20 +1,22 @@
 -- How the recording of several inputs ends, and what their files hold.
-use Rattle.std.specs.Prelude.{◌≡◌, ℕ, ◌+◌, ◌<◌, ◌≤◌, ◌^◌, ◌⊎◌, false, List, [], ◌∷◌, ◌++◌, length, map, slice_get, Option, Some, None, IfSome, ⊤}
+use Rattle.std.specs.Prelude.{◌≡◌, ℕ, ◌+◌, ◌<◌, ◌≤◌, ◌^◌, ◌⊎◌, false, List, [], ◌∷◌, ◌++◌, length, map, replicate, slice_get, Option, Some, None, IfSome, ⊤}
 use Rattle.sf_tick.specs.declared.types.Chunk.{Chunk}
 use Rattle.sf_tick.specs.declared.types.Stored.{Stored}
 use Rattle.sf_world.specs.Counts.{Rose}
-use Rattle.sf_world.specs.Views.{ShelfView, SourceView, Unchanged}
+use Rattle.sf_world.specs.Views.{KeptAtMost, ShelfView, SourceView, Unchanged}
 use Rattle.sf_coded.specs.declared.types.CodedFault.TheVariants.{ReadFault as CodedReadFault}
 use Rattle.sf_entry.specs.declared.track_setup.TrackSetup.{TrackSetup}
 use Rattle.sf_gather.specs.declared.given.Options.{Options}
 use Rattle.sf_gather.specs.Chunks.{chunks}
+use Rattle.sf_interleave.specs.Waiting.{list_of}
 use Rattle.sf_series.specs.declared.limits.Limits.{Limits}
 use Rattle.sf_series.specs.declared.limits.LimitShown.{LimitShown}
 use Rattle.sf_series.specs.declared.report.Report.{Report}
 use Rattle.sf_series.specs.Ending.{Reports}
-use Rattle.sf_series.specs.Names.{names_to}
+use Rattle.sf_series.specs.Files.{chunks_of_track, flat}
+use Rattle.sf_series.specs.Names.{file_name, names_to}
 use Rattle.sf_series.specs.Order.{in_order}
-use Rattle.sf_series.specs.ReadBack.{ReadToLimit, WholeReadBack}
+use Rattle.sf_series.specs.ReadBack.{Begin, ReadToFault, ReadToLimit, WholeReadBack}
 use Rattle.sf_series.specs.Series.{IsNothing, OpenSeries}
 use Rattle.sf_series.specs.Shelved.{AllKept, with_files}
 use Rattle.sf_series.specs.Switching.{closed_length, passes, switched}
@@ -121,6 +123,11 @@ gave sources shelf report = record { sources = sources; shelf = shelf; report = 
 abbrev pub HasFault : ℕ → Options → SourceView → SourceView → TrackFault → Type 0
 HasFault track options before after fault = WasRead track options before after (without_setup (Some fault)) ⊎ ((fault ≡ read_fault) × Rose before.faults after.faults)
 
+-- A report tells of no file, and of no sample of each input.
+pub record TellsNone (asked : Asked) (report : Report) : Type 0 where
+  pub files : report.files ≡ []
+  pub tracks : report.tracks ≡ replicate (length asked.sources) 0
+
 -- The header or the setup of the input of a track has this fault, those of the inputs below it have none, and no file was made.
 pub record EndsAtHeader (asked : Asked) (given : Gave) (track : ℕ) (fault : TrackFault) : Type 0 where
   pub below : (number : ℕ) (source : SourceView) → number < track → slice_get asked.sources number ≡ Some source → (setup : TrackSetup) × Opens number asked.options source.content setup
@@ -130,7 +137,7 @@ pub record EndsAtHeader (asked : Asked) (given : Gave) (track : ℕ) (fault : Tr
   pub back : slice_get given.sources track ≡ Some after
   pub read : HasFault track asked.options before after fault
   pub nothing : given.shelf ≡ asked.shelf
-  pub none : given.report.files ≡ []
+  pub none : TellsNone asked given.report
 
 -- An empty file is within the limit of bytes, and the files that a shelf gained follow from chunks of lists by the switching rule, the earliest chunk first, then the one of the lowest track, up to this limit, if any: they were closed and kept by the names of a series, and the report tells their lengths and the samples of each track in them.
 pub record FollowOrder (asked : Asked) (given : Gave) (setups : List TrackSetup) (lists : List (List Chunk)) (limit : Option LimitShown) : Type 0 where
@@ -140,7 +147,22 @@ pub record FollowOrder (asked : Asked) (given : Gave) (setups : List TrackSetup)
   pub kept : AllKept asked.shelf asked.limits.stem setups files given.shelf
   pub reports : Reports setups files files given.report
 
--- Each input was read to its end or to its fault, and the samples before it stand in the files, all of them, where the shelf tells its files.
+-- The files that a shelf gained before a fault follow from chunks by the switching rule. Of each track these chunks are the first of its list, and of some first chunks of each list they are the first in order: the earliest chunk first, then the one of the lowest track. All of the files, or all but the last one, were closed and kept by the names of a series. At most one more was made after those, and is kept as far as it was written. The report tells the lengths of the closed ones, and the samples of each track that were written.
+pub record FollowToFault (asked : Asked) (given : Gave) (setups : List TrackSetup) (lists : List (List Chunk)) : Type 0 where
+  pub closed : List (List Chunk)
+  pub last : List (List Chunk)
+  pub few : length last ≤ 1
+  pub order : switched asked.limits setups (flat (closed ++ last)) ≡ record { files = closed ++ last; limit = None }
+  pub first : (track : ℕ) → (rest : List Chunk) × (list_of lists track ≡ chunks_of_track track (closed ++ last) ++ rest)
+  pub handed : List (List Chunk)
+  pub begin : Begin handed lists
+  pub earliest : (rest : List Chunk) × (in_order handed ≡ flat (closed ++ last) ++ rest)
+  pub before : ShelfView
+  pub kept : AllKept asked.shelf asked.limits.stem setups closed before
+  pub made : KeptAtMost (file_name asked.limits.stem (length closed + 1)) before given.shelf
+  pub reports : Reports setups (closed ++ last) closed given.report
+
+-- Each input was read to its end or to its fault, and the samples before it stand in the files, all of them, where the shelf tells its files. The report tells how many they are.
 pub record RecordsAll (asked : Asked) (given : Gave) (setups : List TrackSetup) (reads : List Said) : Type 0 where
   pub read : AllRead 0 asked.options asked.sources given.sources reads
   pub taken : map (λ r. r.setup) reads ≡ map Some setups
@@ -149,6 +171,7 @@ pub record RecordsAll (asked : Asked) (given : Gave) (setups : List TrackSetup) 
   pub back : (before : List (List ℕ)) → asked.shelf.files ≡ Some before
       → WholeReadBack asked.shelf before series (lists_of 0 asked.options setups reads) (lists_of 0 asked.options setups reads) given.report given.shelf
   pub follow : FollowOrder asked given setups (lists_of 0 asked.options setups reads) None
+  pub told : given.report.tracks ≡ map (λ r. length r.samples) reads
 
 -- A chunk of what was read meets this limit, and those before it in its track stand in the files.
 pub record RecordsToLimit (asked : Asked) (given : Gave) (shown : LimitShown) : Type 0 where
@@ -169,7 +192,31 @@ pub record FitsNothing (asked : Asked) (given : Gave) (shown : LimitShown) : Typ
   pub one_each : length setups ≡ length asked.sources
   pub passed : IsNothing asked.limits setups shown
   pub nothing : given.shelf ≡ asked.shelf
-  pub none : given.report.files ≡ []
+  pub none : TellsNone asked given.report
+
+-- Memory ran out before anything was read: nothing was made, and the report is empty.
+pub record ReadsNone (asked : Asked) (given : Gave) : Type 0 where
+  pub sources : given.sources ≡ asked.sources
+  pub shelf : given.shelf ≡ asked.shelf
+  pub none : (given.report.files ≡ []) × (given.report.tracks ≡ [])
+
+-- No file was begun: at most the first one was made, and is kept.
+pub record BeginsNone (asked : Asked) (given : Gave) : Type 0 where
+  pub made : KeptAtMost (file_name asked.limits.stem 1) asked.shelf given.shelf
+  pub none : TellsNone asked given.report
+
+-- Files were begun, as an empty one is within the limit of bytes, and then a write failed, or memory ran out. Those that were closed hold the first samples of each input, and no others.
+pub record RecordsToFault (asked : Asked) (given : Gave) : Type 0 where
+  pub setups : List TrackSetup
+  pub reads : List Said
+  pub read : AllRead 0 asked.options asked.sources given.sources reads
+  pub taken : map (λ r. r.setup) reads ≡ map Some setups
+  pub series : OpenSeries
+  pub own : (series.files.setups ≡ setups) × (series.files.limits ≡ asked.limits)
+  pub back : (before : List (List ℕ)) → asked.shelf.files ≡ Some before
+      → ReadToFault asked.shelf before series (lists_of 0 asked.options setups reads) given.report given.shelf
+  pub under : passes asked.limits.max_bytes (closed_length setups []) ≡ false
+  pub follow : FollowToFault asked given setups (lists_of 0 asked.options setups reads)
 
 -- all inputs were recorded, and this is the answer for the lowest of their faults
 abbrev pub Recorded : Asked → Gave → SerialOutcome → Type 0
@@ -178,8 +225,8 @@ Recorded asked given outcome = (setups : List TrackSetup) × (reads : List Said)
 -- How the recording of several inputs ends, by its answer.
 abbrev pub SerialEnds : Asked → Gave → SerialOutcome → Type 0
 SerialEnds asked given Done = Recorded asked given Done
-SerialEnds asked given WriteFault = Rose asked.shelf.faults given.shelf.faults
+SerialEnds asked given WriteFault = Rose asked.shelf.faults given.shelf.faults × (BeginsNone asked given ⊎ RecordsToFault asked given)
 SerialEnds asked given (Limit shown) = FitsNothing asked given shown ⊎ RecordsToLimit asked given shown
 SerialEnds asked given (Refused track fault) = EndsAtHeader asked given track fault ⊎ Recorded asked given (Refused track fault)
 SerialEnds asked given (ReadFault input) = EndsAtHeader asked given input read_fault ⊎ Recorded asked given (ReadFault input)
-SerialEnds asked given NoMemory = Unit {0}
+SerialEnds asked given NoMemory = ReadsNone asked given ⊎ BeginsNone asked given ⊎ RecordsToFault asked given

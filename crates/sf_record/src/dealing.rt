@@ -10,11 +10,10 @@ ghost use Rattle.sf_record.specs.Pumping.{NotEndedEarly, Stands, turns_left};
 ghost use Rattle.sf_world.specs.Views.{ShelfView};
 ghost use Rattle.sf_interleave.specs.Waiting.{earliest_front, how_many};
 ghost use Rattle.sf_series.specs.Core.{State};
-ghost use Rattle.sf_series.specs.Series.{Stands as SeriesStands};
 ghost use Rattle.sf_series.specs.inner.Writing.{SameSetups};
 ghost use Rattle.sf_series.specs.declared.limits.LimitShown.{LimitShown};
 ghost use Rattle.sf_record.specs.Serial.{lowest_fault};
-ghost use Rattle.sf_record.specs.inner.Dealing.{AllOver, AllWait, Deals, Fed, Feeds, GoesOn, NextIs, PumpsOver, turns_of};
+ghost use Rattle.sf_record.specs.inner.Dealing.{AllOver, AllWait, Deals, DealtTo, Fed, Feeds, GoesOn, NextIs, PumpsOver, TrackBegins, turns_of};
 ghost use Rattle.sf_record.specs.inner.InTurn.{InTurn};
 
 use crate::pump::{Pump, Stepped};
@@ -54,6 +53,8 @@ fn fill<S: Source, O: Shelf>(pump: &mut Pump<S>, series: &mut Series<O>) -> Resu
     ensures done { OnOk result ((begun shelf : ShelfView) (state : State) (number : ℕ) → Feeds begun shelf state number pump.old series.old
         → (after : State) × Fed begun shelf state after number pump.new series.new) }
     ensures stopped { OnErr result (series.new ≡ series.old) }
+    ensures lost { OnErr result ((begun shelf : ShelfView) (state : State) (number : ℕ) → Feeds begun shelf state number pump.old series.old
+        → TrackBegins series.new.files.setups state number pump.new) }
     ensures goes { series.new.fault ≡ None }
     ensures files { series.new.files ≡ series.old.files }
     ensures fewer { OnOk result (2 * turns_left pump.old.coded.source.size pump.new + how_many series.new.pending ≤ 2 * turns_left pump.old.coded.source.size pump.old + how_many series.old.pending) }
@@ -81,7 +82,7 @@ fn fill_all<S: Source, O: Shelf>(
     ensures done { OnOk result ((begun shelf : ShelfView) (state : State) → Deals begun state pumps.old.items series.old shelf
         → (after : State) × Deals begun after pumps.new.items series.new shelf × AllWait (length pumps.new.items) after pumps.new.items × (InTurn state → InTurn after)) }
     ensures stopped { OnErr result ((begun shelf : ShelfView) (state : State) → Deals begun state pumps.old.items series.old shelf
-        → (after : State) × SeriesStands begun after series.new shelf) }
+        → DealtTo begun (InTurn state) pumps.new.items series.new shelf) }
     ensures goes { series.new.fault ≡ None }
     ensures files { series.new.files ≡ series.old.files }
     ensures over { PumpsOver pumps.old.items pumps.new.items }
@@ -105,7 +106,7 @@ fn write_next<S: Source, O: Shelf>(
     ensures done { result ≡ Ok false → (pumps.new ≡ pumps.old) × (series.new ≡ series.old) × (shelf.new ≡ shelf.old) × (earliest_front series.old.pending ≡ None) }
     ensures limit { (shown : LimitShown) → result ≡ Err (SeriesFault.Limit shown) → (begun : ShelfView) (state : State) → Deals begun state pumps.old.items series.old (O.seen shelf.old) → AllWait (length pumps.old.items) state pumps.old.items
         → (after : State) × Deals begun after pumps.new.items series.new (O.seen shelf.new) × AllWait (length pumps.new.items) after pumps.new.items × (InTurn state → InTurn after) }
-    ensures stands { (begun : ShelfView) (state : State) → Deals begun state pumps.old.items series.old (O.seen shelf.old) → (after : State) × SeriesStands begun after series.new (O.seen shelf.new) }
+    ensures stands { (begun : ShelfView) (state : State) → Deals begun state pumps.old.items series.old (O.seen shelf.old) → DealtTo begun (AllWait (length pumps.old.items) state pumps.old.items × InTurn state) pumps.new.items series.new (O.seen shelf.new) }
     ensures goes { OnOk result (series.new.fault ≡ None) }
     ensures ended { IfErr result (λ fault. (series.new.fault ≡ Some fault) ⊎ ((series.new.fault ≡ None) × (fault ≡ SeriesFault.NoMemory))) }
     ensures same { SameSetups series.old.files series.new.files }
@@ -136,7 +137,7 @@ pub(crate) fn deal<S: Source, O: Shelf>(
         → (after : State) × Deals begun after pumps.new.items series.new (O.seen shelf.new) × AllOver pumps.new.items × (earliest_front after.pending ≡ None) × (InTurn state → InTurn after)) }
     ensures limit { (shown : LimitShown) → result ≡ Err (SeriesFault.Limit shown) → (begun : ShelfView) (state : State) → Deals begun state pumps.old.items series.old (O.seen shelf.old)
         → (after : State) × Deals begun after pumps.new.items series.new (O.seen shelf.new) × AllWait (length pumps.new.items) after pumps.new.items × (InTurn state → InTurn after) }
-    ensures stands { (begun : ShelfView) (state : State) → Deals begun state pumps.old.items series.old (O.seen shelf.old) → (after : State) × SeriesStands begun after series.new (O.seen shelf.new) }
+    ensures stands { (begun : ShelfView) (state : State) → Deals begun state pumps.old.items series.old (O.seen shelf.old) → DealtTo begun (InTurn state) pumps.new.items series.new (O.seen shelf.new) }
     ensures goes { OnOk result (series.new.fault ≡ None) }
     ensures ended { IfErr result (λ fault. (series.new.fault ≡ Some fault) ⊎ ((series.new.fault ≡ None) × (fault ≡ SeriesFault.NoMemory))) }
     ensures same { SameSetups series.old.files series.new.files }

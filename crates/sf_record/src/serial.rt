@@ -1,6 +1,6 @@
 //! Several inputs are recorded into a series of files, on one thread.
 
-ghost use Rattle.std.specs.Prelude.{◌≡◌, ℕ, ◌+◌, ◌≤◌, ◌⊎◌, ◌++◌, List, [], length, map, slice_get, Some, None, vec_capacity, vec_len, IfOk};
+ghost use Rattle.std.specs.Prelude.{◌≡◌, ℕ, ◌+◌, ◌≤◌, ◌⊎◌, ◌++◌, List, [], length, map, replicate, slice_get, Some, None, vec_capacity, vec_len, IfOk};
 ghost use Rattle.sf_world.specs.Views.{ShelfView, SourceView};
 ghost use Rattle.sf_gather.specs.declared.given.Options.{Options};
 ghost use Rattle.sf_series.specs.Core.{State};
@@ -41,7 +41,7 @@ fn make_room<S: Source>(alloc: Global, inputs: usize) -> Result<Room<S>, AllocEr
     ensures setups { IfOk result (λ r. vec_len r.opening.setups + inputs ≤ vec_capacity r.opening.setups) }
     ensures rest { IfOk result (λ r. vec_len r.opening.rest + inputs ≤ vec_capacity r.opening.rest) }
     ensures back { IfOk result (λ r. (r.back.items ≡ []) × (vec_len r.back + inputs ≤ vec_capacity r.back)) }
-    ensures nothing { IfOk result (λ r. r.nothing.files ≡ []) }
+    ensures nothing { IfOk result (λ r. (r.nothing.files ≡ []) × (r.nothing.tracks ≡ replicate inputs 0)) }
 {
     Ok(Room {
         opening: Opening::new(alloc, inputs)?,
@@ -157,7 +157,7 @@ fn record_pumps<S: Source, O: Shelf>(
     requires opened { (options : Options) × (before : List SourceView) × AllOpened 0 options before setups.items pumps.items }
     requires limits { AreLimits limits }
     requires room { (back.items ≡ []) × (vec_len back + length pumps.items ≤ vec_capacity back) }
-    requires nothing { nothing.files ≡ [] }
+    requires nothing { (nothing.files ≡ []) × (nothing.tracks ≡ replicate (length pumps.items) 0) }
     ensures ends { (options : Options) (before : List SourceView) → AllOpened 0 options before setups.items pumps.items
         → SerialEnds (asked_for options limits before (O.seen shelf.old)) (gave (map (λ s. S.seen s) result.sources.items) (O.seen shelf.new) result.report) result.outcome }
     ensures back { (options : Options) (before : List SourceView) → AllOpened 0 options before setups.items pumps.items → ComeBack before (map (λ s. S.seen s) result.sources.items) }
@@ -200,7 +200,7 @@ fn record_within<S: Source, O: Shelf>(
     requires setups { vec_len room.opening.setups + length sources.items ≤ vec_capacity room.opening.setups }
     requires rest { vec_len room.opening.rest + length sources.items ≤ vec_capacity room.opening.rest }
     requires back { (room.back.items ≡ []) × (vec_len room.back + length sources.items ≤ vec_capacity room.back) }
-    requires nothing { room.nothing.files ≡ [] }
+    requires nothing { (room.nothing.files ≡ []) × (room.nothing.tracks ≡ replicate (length sources.items) 0) }
     ensures ends { SerialEnds (asked_for options limits (map (λ s. S.seen s) sources.items) (O.seen shelf.old))
         (gave (map (λ s. S.seen s) result.sources.items) (O.seen shelf.new) result.report) result.outcome }
     ensures back { ComeBack (map (λ s. S.seen s) sources.items) (map (λ s. S.seen s) result.sources.items) }

@@ -1,18 +1,20 @@
 -- How the chunks of pumps are handed to a series of files.
-use Rattle.std.specs.Prelude.{◌≡◌, ℕ, ◌*◌, ◌<◌, ◌⊎◌, false, sum_by, List, [], ◌∷◌, ◌++◌, length, slice_get, get_or, Option, Some, None}
+use Rattle.std.specs.Prelude.{◌≡◌, ℕ, ◌*◌, ◌<◌, ◌≤◌, ◌⊎◌, Bool, false, sum_by, List, [], ◌∷◌, ◌++◌, length, slice_get, get_or, Option, Some, None}
 use Rattle.sf_tick.specs.declared.types.Stored.{Stored}
 use Rattle.sf_tick.specs.declared.types.Chunk.{Chunk}
 use Rattle.sf_entry.specs.declared.track_setup.TrackSetup.{TrackSetup}
 use Rattle.sf_gather.specs.Proper.{ends_marked}
 use Rattle.sf_interleave.specs.Waiting.{list_of}
-use Rattle.sf_series.specs.Core.{State, hand}
+use Rattle.sf_series.specs.declared.faults.SeriesFault.{SeriesFault}
+use Rattle.sf_series.specs.Core.{State, failed, hand}
 use Rattle.sf_series.specs.Fitting.{AreProper, CanHand}
 use Rattle.sf_series.specs.Kept.{Kept}
-use Rattle.sf_series.specs.Series.{OpenSeries, Stands as SeriesStands}
+use Rattle.sf_series.specs.Series.{Breaks, OpenSeries, Stands as SeriesStands}
 use Rattle.sf_world.specs.Counts.{Rose}
 use Rattle.sf_world.specs.Views.{ShelfView, Unchanged}
 use Rattle.sf_record.specs.Limits.{filled}
 use Rattle.sf_record.specs.Input.{read_fault}
+use Rattle.sf_record.specs.inner.InTurn.{InTurn}
 use Rattle.sf_record.specs.Pumping.{NotEndedEarly, Pumping, Stands, turns_left}
 
 -- a pump stands for some accepted samples
@@ -43,6 +45,15 @@ pub record Hands (contents : Option (List ℕ)) (number scale : ℕ) (state : St
   pub goes : GoesOn contents taken pump
   pub handed : list_of state.handed number ≡ filled taken
   pub mark : get_or state.marks number false ≡ ends_marked taken
+
+-- The first chunks that were taken of a pump were handed of its track.
+pub record HandsFirst (contents : Option (List ℕ)) (number scale : ℕ) (state : State) (pump : Pumping) : Type 0 where
+  pub track : pump.given.track ≡ number
+  pub ticks : pump.given.scale ≡ scale
+  pub taken : List Chunk
+  pub goes : GoesOn contents taken pump
+  pub rest : List Chunk
+  pub first : filled taken ≡ list_of state.handed number ++ rest
 
 -- A track whose pump gives the next chunk to a series: what was taken of it was handed, and the track has a setup.
 pub record Feeds (begun shelf : ShelfView) (state : State) (number : ℕ) (pump : Pumping) (series : OpenSeries) : Type 0 where
@@ -79,6 +90,28 @@ pub record Deals (begun : ShelfView) (state : State) (pumps : List Pumping) (ser
   pub proper : AreProper series.files.setups state
   pub one_each : length pumps ≡ length series.files.setups
   pub tracks : (number : ℕ) (pump : Pumping) → slice_get pumps number ≡ Some pump → TrackStands series.files.setups state number pump
+
+-- The track of a number among those of a series: it has a setup, and the first chunks that were taken of its pump were handed.
+pub record TrackBegins (setups : List TrackSetup) (state : State) (number : ℕ) (pump : Pumping) : Type 0 where
+  pub setup : TrackSetup
+  pub there : slice_get setups number ≡ Some setup
+  pub hands : HandsFirst pump.coded.source.content number setup.scale state pump
+
+-- a state is as it was, or is what a write left of it that failed or found no memory
+abbrev pub LeftBy : OpenSeries → State → State → Type 0
+LeftBy series before after = (after ≡ before) ⊎ ((fault : SeriesFault) × (series.fault ≡ Some fault) × Breaks fault × ((closed : Bool) × (after ≡ failed closed before)))
+
+-- First chunks of each pump were handed to a series, which stands for their state or for what a fault left of it. Those in files were written in turn, where this holds.
+pub record DealtTo (begun : ShelfView) (Turn : Type 0) (pumps : List Pumping) (series : OpenSeries) (shelf : ShelfView) : Type 0 where
+  pub state : State
+  pub some : 1 ≤ length state.files
+  pub kept : Kept series.files.limits series.files.setups state
+  pub proper : AreProper series.files.setups state
+  pub tracks : (number : ℕ) (pump : Pumping) → slice_get pumps number ≡ Some pump → TrackBegins series.files.setups state number pump
+  pub turn : Turn → InTurn state
+  pub after : State
+  pub left : LeftBy series state after
+  pub stands : SeriesStands begun after series shelf
 
 -- of each track below a number a chunk waits, or its last one was taken
 abbrev pub AllWait : ℕ → State → List Pumping → Type 0

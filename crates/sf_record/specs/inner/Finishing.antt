@@ -1,5 +1,5 @@
 -- How a series into which the chunks of pumps were dealt is finished, and the answer by it.
-use Rattle.std.specs.Prelude.{◌≡◌, ℕ, true, List, map, None, Result, Ok, Err}
+use Rattle.std.specs.Prelude.{◌≡◌, ℕ, ◌≤◌, ◌⊎◌, true, List, length, map, slice_get, Some, None, Result, Ok, Err}
 use Rattle.sf_world.specs.Counts.{Rose}
 use Rattle.sf_world.specs.Views.{ShelfView}
 use Rattle.sf_entry.specs.declared.track_setup.TrackSetup.{TrackSetup}
@@ -10,7 +10,9 @@ use Rattle.sf_series.specs.declared.limits.Limits.{Limits}
 use Rattle.sf_series.specs.declared.limits.LimitShown.{LimitShown}
 use Rattle.sf_series.specs.declared.report.Report.{Report}
 use Rattle.sf_series.specs.Core.{State}
-use Rattle.sf_series.specs.Ending.{Finished, Stopped}
+use Rattle.sf_series.specs.Ending.{Broken, Finished, Stopped}
+use Rattle.sf_series.specs.Fitting.{AreProper}
+use Rattle.sf_series.specs.Kept.{Kept}
 use Rattle.sf_series.specs.Series.{OpenSeries}
 use Rattle.sf_record.specs.declared.serial_end.SerialOutcome.{SerialOutcome}
 use Rattle.sf_record.specs.declared.serial_end.SerialOutcome.TheVariants.{Done, WriteFault, Limit, Refused, ReadFault, NoMemory}
@@ -18,7 +20,7 @@ use Rattle.sf_record.specs.declared.opening.Untaken.{Untaken}
 use Rattle.sf_record.specs.declared.opening.Untaken.TheVariants as opening
 use Rattle.sf_record.specs.Pumping.{Pumping}
 use Rattle.sf_record.specs.Serial.{answer_at, lowest_fault}
-use Rattle.sf_record.specs.inner.Dealing.{AllOver, Deals}
+use Rattle.sf_record.specs.inner.Dealing.{AllOver, Deals, TrackBegins}
 use Rattle.sf_record.specs.inner.InTurn.{AllReady, InTurn}
 
 -- The chunks of pumps were dealt into a series of these tracks, within these limits.
@@ -44,6 +46,22 @@ pub record FinishedAtLimit (begun : ShelfView) (limits : Limits) (setups : List 
   pub ended : dealt.state.ended ≡ true
   pub stopped : Stopped begun dealt.series dealt.state shown report after
 
+-- how a series ends of which not all chunks were dealt: what waited was written, up to a limit if one was met, or writing it failed
+abbrev pub EndsEarly : ShelfView → OpenSeries → State → Report → ShelfView → Type 0
+EndsEarly begun series state report after = Finished begun series state report after ⊎ ((shown : LimitShown) × Stopped begun series state shown report after) ⊎ Broken begun series state report after
+
+-- First chunks of each pump were handed to a series of these tracks, within these limits, which ended before all were.
+pub record FinishedAtFault (begun : ShelfView) (limits : Limits) (setups : List TrackSetup) (pumps : List Pumping) (report : Report) (after : ShelfView) : Type 0 where
+  pub series : OpenSeries
+  pub state : State
+  pub own : (series.files.setups ≡ setups) × (series.files.limits ≡ limits)
+  pub some : 1 ≤ length state.files
+  pub turn : InTurn state
+  pub kept : Kept series.files.limits series.files.setups state
+  pub proper : AreProper series.files.setups state
+  pub tracks : (number : ℕ) (pump : Pumping) → slice_get pumps number ≡ Some pump → TrackBegins series.files.setups state number pump
+  pub ends : EndsEarly begun series state report after
+
 -- all was written, and this is the answer for the lowest fault of the pumps
 abbrev pub AsPumps : ShelfView → Limits → List TrackSetup → List Pumping → Report → ShelfView → SerialOutcome → Type 0
 AsPumps begun limits setups pumps report after outcome = FinishedAll begun limits setups pumps report after × (outcome ≡ lowest_fault 0 (map (λ p. p.fault) pumps))
@@ -51,11 +69,11 @@ AsPumps begun limits setups pumps report after outcome = FinishedAll begun limit
 -- how the writing of the chunks of pumps ends, by its answer, over a shelf that showed this before it
 abbrev pub WriteEnds : ShelfView → ShelfView → Limits → List TrackSetup → List Pumping → Report → ShelfView → SerialOutcome → Type 0
 WriteEnds begun old limits setups pumps report after Done = AsPumps begun limits setups pumps report after Done
-WriteEnds begun old limits setups pumps report after WriteFault = Rose old.faults after.faults
+WriteEnds begun old limits setups pumps report after WriteFault = Rose old.faults after.faults × FinishedAtFault begun limits setups pumps report after
 WriteEnds begun old limits setups pumps report after (Limit shown) = FinishedAtLimit begun limits setups pumps shown report after
 WriteEnds begun old limits setups pumps report after (Refused track fault) = AsPumps begun limits setups pumps report after (Refused track fault)
 WriteEnds begun old limits setups pumps report after (ReadFault input) = AsPumps begun limits setups pumps report after (ReadFault input)
-WriteEnds begun old limits setups pumps report after NoMemory = Unit {0}
+WriteEnds begun old limits setups pumps report after NoMemory = FinishedAtFault begun limits setups pumps report after
 
 -- the answer by how the series was finished, how the chunks were dealt, and what is to be told of the inputs
 abbrev pub outcome_by : Result (Unit {0}) SeriesFault → Result (Unit {0}) SeriesFault → SerialOutcome → SerialOutcome

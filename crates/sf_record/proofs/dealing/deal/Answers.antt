@@ -3,7 +3,7 @@ use Rattle.sf_tick.specs.declared.types.Chunk.{Chunk}
 use Rattle.sf_interleave.specs.Waiting.{earliest_front}
 use Rattle.sf_interleave.proofs.WaitingLaws.{picked_none}
 use Rattle.sf_series.specs.Series.{OpenFiles}
-use Rattle.sf_record.proofs.Deals.{all_over, dealt_same, overs_then}
+use Rattle.sf_record.proofs.Deals.{all_over, dealt_by, dealt_same, overs_then}
 use Rattle.sf_record.proofs.Errors.{handed_on}
 use Rattle.sf_record.proofs.dealing.deal.Goals as goal
 
@@ -53,3 +53,13 @@ returns-clause-done g c begun state d0 =
     let none = ap (λ (ls : List (List Chunk)). earliest_front ls) (sym d.1.stands.pending) ∙ s.3 in
     let r = dealt_same begun d.0 (ap (λ v. v.items) s.0) s.1 (ap g.O.Shelf.seen s.2) d.1 (all_over d.0 _ (λ t. picked_none d.0.pending t none) d.2) in
     (d.0, r.0, r.1, none, d.3)
+
+pub returns-in_err-write_next-clause-stands : goal.returns-in_err-write_next-clause-stands
+returns-in_err-write_next-clause-stands g c begun state d0 =
+    let d = c.loop.invariant.deals begun state d0 in
+    dealt_by (λ turn. (d.2, d.3 turn)) (c.in_err-write_next.ensures.stands begun d.0 d.1)
+
+pub returns-clause-stands : goal.returns-clause-stands
+returns-clause-stands g c begun state d0 =
+    let d = c.loop.invariant.deals begun state d0 in
+    dealt_by (λ turn. (d.2, d.3 turn)) (c.in_ok-write_next.ensures.stands begun d.0 d.1)

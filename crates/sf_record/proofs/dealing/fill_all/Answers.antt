@@ -1,8 +1,8 @@
-use Rattle.std.proofs.Common.{◌+◌, ◌<◌, length, refl, sym, ap, ◌∙◌, subst, arith}
+use Rattle.std.proofs.Common.{◌+◌, ◌<◌, length, refl, sym, ap, ◌∙◌, arith}
 use Rattle.std.proofs.lemmas.List.{length-set}
 use Rattle.std.proofs.lemmas.Option.{slice_get_read}
-use Rattle.sf_series.specs.Series.{OpenFiles, OpenSeries, Stands as SeriesStands}
-use Rattle.sf_record.proofs.Deals.{all_same, deals_fed, feeds_of, less_but, on_err, over_set, waits_fed}
+use Rattle.sf_series.specs.Series.{OpenFiles}
+use Rattle.sf_record.proofs.Deals.{all_same, dealt_but, deals_fed, feeds_of, less_but, on_err, over_set, waits_fed}
 use Rattle.sf_record.proofs.Ready.{one_turn}
 use Rattle.sf_record.proofs.dealing.fill_all.Goals as goal
 
@@ -30,8 +30,13 @@ fill-requires-clause-feeds g c κs within =
 pub returns-in_err-fill-clause-stopped : goal.returns-in_err-fill-clause-stopped
 returns-in_err-fill-clause-stopped g c =
     on_err c.from_residual.result (λ begun shelf state d0.
-    let d = c.loop-number.invariant.deals begun shelf state d0 in
-    (d.0, subst (λ (s : OpenSeries). SeriesStands begun d.0 s shelf) (sym c.in_err-fill.ensures.stopped) d.1.stands))
+    let i = c.loop-number.invariant in
+    let d = i.deals begun shelf state d0 in
+    let k = c.loop-number.number in
+    let items = c.loop-number.pumps.items in
+    let less : k < length items = omega (arith, c.loop-number-test.true, i.long, c.len-number-end.ensures) in
+    let at = slice_get_read items (length items) k c.index_mut.result.now refl less c.index_mut.ensures.value in
+    dealt_but k c.index_mut.result.now c.fill.new.pump d.1 at c.in_err-fill.ensures.stopped (c.in_err-fill.ensures.lost begun shelf d.0 k (feeds_of k c.index_mut.result.now d.1 at)) d.3)
 
 pub returns-in_err-fill-clause-over : goal.returns-in_err-fill-clause-over
 returns-in_err-fill-clause-over g c =

@@ -5,7 +5,7 @@ use Rattle.sf_series.specs.Core.{write}
 use Rattle.sf_series.specs.Series.{OpenFiles}
 use Rattle.sf_series.specs.declared.faults.SeriesFault.{SeriesFault}
 use Rattle.sf_record.specs.inner.Dealing.{AllWait}
-use Rattle.sf_record.proofs.Deals.{all_same, deals_fed, deals_written, err_stands, feeds_of, over_set, waits_fed, waits_written, written_inside, wrote_is}
+use Rattle.sf_record.proofs.Deals.{all_same, dealt_but, dealt_failed, dealt_to, deals_fed, deals_written, err_stands, feeds_of, over_set, waits_fed, waits_written, written_inside, wrote_is}
 use Rattle.sf_record.proofs.Errors.{handed_on}
 use Rattle.sf_record.proofs.InTurn.{write_turn}
 use Rattle.sf_record.proofs.Ready.{one_turn, ready_of, waits_limited}
@@ -26,8 +26,9 @@ returns-in_err-track-clause-limit g c shown e begun state d0 wait =
 pub returns-in_err-track-clause-stands : goal.returns-in_err-track-clause-stands
 returns-in_err-track-clause-stands g c begun state d0 =
     let w = c.in_err-track.ensures in
-    err_stands c.in_err-track.field-0.0 (λ shown is. let l = (w.limit shown (ap (λ (f : SeriesFault). Err f) is)).1 begun state d0.stands in (_, l.1))
-    (λ breaks. let b = w.broken breaks in (_, b.1 begun state d0.stands))
+    err_stands c.in_err-track.field-0.0 (λ shown is. let l = (w.limit shown (ap (λ (f : SeriesFault). Err f) is)).1 begun state d0.stands in
+    dealt_to (deals_written d0 w.same l.1) (λ h. write_turn c.args.series.now.files.limits c.args.series.now.files.setups state d0.kept.theirs (ready_of d0 h.0) h.1))
+    (λ breaks. let b = w.broken breaks in dealt_failed b.0 c.in_err-track.field-0.0 d0 w.same w.ended breaks (b.1 begun state d0.stands) (λ h. h.1))
 
 pub returns-in_err-track-clause-over : goal.returns-in_err-track-clause-over
 returns-in_err-track-clause-over g c = all_same c.args.pumps.now.items
@@ -93,10 +94,26 @@ returns-in_ok-fill-in-OneChunk-clause-stands g c begun state d0 =
     let at = slice_get_read items (length items) k c.index_mut.result.now refl less c.index_mut.ensures.value in
     let d = deals_written d0 w.same (w.done begun state d0.stands) in
     let f = c.in_ok-fill-in-OneChunk.ensures.done begun _ _ k (feeds_of k c.index_mut.result.now d at) in
-    (f.0, f.1.feeds.stands)
+    dealt_to (deals_fed k c.index_mut.result.now c.fill.new.pump d at c.in_ok-fill-in-OneChunk.ensures.files f.1)
+    (λ h. one_turn c.fill.new.series.files.setups k d (sym (ap (λ (fs : OpenFiles). fs.setups) c.in_ok-fill-in-OneChunk.ensures.files)) f.1.one
+    (write_turn c.args.series.now.files.limits c.args.series.now.files.setups state d0.kept.theirs (ready_of d0 h.0) h.1))
+
+pub returns-in_err-fill-in-OneChunk-clause-stands : goal.returns-in_err-fill-in-OneChunk-clause-stands
+returns-in_err-fill-in-OneChunk-clause-stands g c begun state d0 =
+    let w = c.in_ok-track.ensures in
+    let k = c.in-OneChunk.track in
+    let items = c.args.pumps.now.items in
+    let e = c.in_err-fill-in-OneChunk.ensures in
+    let less : k < length items = written_inside k d0 (wrote_is k d0.stands w.wrote c.in-OneChunk.is) in
+    let at = slice_get_read items (length items) k c.index_mut.result.now refl less c.index_mut.ensures.value in
+    let d = deals_written d0 w.same (w.done begun state d0.stands) in
+    dealt_but k c.index_mut.result.now c.fill.new.pump d at e.stopped (e.lost begun _ _ k (feeds_of k c.index_mut.result.now d at))
+    (λ h. write_turn c.args.series.now.files.limits c.args.series.now.files.setups state d0.kept.theirs (ready_of d0 h.0) h.1)
 
 pub returns-in-Idle-clause-stands : goal.returns-in-Idle-clause-stands
-returns-in-Idle-clause-stands g c begun state d0 = (_, c.in_ok-track.ensures.done begun state d0.stands)
+returns-in-Idle-clause-stands g c begun state d0 =
+    dealt_to (deals_written d0 c.in_ok-track.ensures.same (c.in_ok-track.ensures.done begun state d0.stands))
+    (λ h. write_turn c.args.series.now.files.limits c.args.series.now.files.setups state d0.kept.theirs (ready_of d0 h.0) h.1)
 
 pub returns-in-Idle-clause-over : goal.returns-in-Idle-clause-over
 returns-in-Idle-clause-over g c = all_same c.args.pumps.now.items

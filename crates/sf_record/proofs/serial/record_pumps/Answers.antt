@@ -1,4 +1,5 @@
-use Rattle.std.proofs.Common.{◌≡◌, ◌++◌, false, List, length, map, [], sym, ap, subst, ◌∙◌, arith}
+use Rattle.std.proofs.Common.{◌≡◌, ℕ, ◌++◌, false, List, length, map, [], sym, ap, subst, ◌∙◌, arith}
+use Rattle.std.specs.Prelude.{replicate}
 use Rattle.sf_entry.specs.declared.track_setup.TrackSetup.{TrackSetup}
 use Rattle.sf_world.specs.Views.{SourceView}
 use Rattle.sf_series.specs.Core.{fresh}
@@ -6,11 +7,12 @@ use Rattle.sf_series.specs.Fitting.{Fits}
 use Rattle.sf_series.specs.declared.limits.Limits.{Limits}
 use Rattle.sf_series.specs.Switching.{closed_length, passes}
 use Rattle.sf_record.specs.declared.serial_end.SerialOutcome.{SerialOutcome}
-use Rattle.sf_record.specs.Serial.{ComeBack, KeepsMade, SerialEnds, asked_for, gave}
+use Rattle.sf_record.specs.Serial.{ComeBack, KeepsMade, SerialEnds, TellsNone, asked_for, gave}
 use Rattle.sf_record.specs.inner.Finishing.{WriteEnds}
 use Rattle.sf_record.proofs.Deals.{all_same}
 use Rattle.sf_record.proofs.Finishing.{one_made}
 use Rattle.sf_record.proofs.InTurn.{fresh_turn}
+use Rattle.sf_record.proofs.Opened.{opened_long}
 use Rattle.sf_record.proofs.Serials.{come_back, fresh_deals, not_passed, over_long, readable_of, serial_ends, setups_of, unbegun_ends}
 use Rattle.sf_record.proofs.serial.record_pumps.Goals as goal
 
@@ -57,8 +59,11 @@ returns-in-Ok-clause-kept g c =
 pub returns-in-Err-clause-ends : goal.returns-in-Err-clause-ends
 returns-in-Err-clause-ends g c options before all =
     let outcome = c.unbegun_outcome.ensures in
+    let long = opened_long 0 options before c.args.setups.items c.args.pumps.items all in
+    let none : TellsNone (asked_for options c.args.limits before (g.O.Shelf.seen c.args.shelf.now)) c.args.nothing =
+    record { files = c.requires.nothing.0; tracks = c.requires.nothing.1 ∙ ap (λ (n : ℕ). replicate n 0) long.1 } in
     subst (λ (o : SerialOutcome). SerialEnds (asked_for options c.args.limits before (g.O.Shelf.seen c.args.shelf.now)) (gave (map (λ s. g.S.Source.seen s) c.sources_of-in-Err.result.items) (g.O.Shelf.seen c.start.new.shelf) c.args.nothing) o) (sym outcome)
-    (unbegun_ends options before c.args.setups.items c.args.pumps.items (g.O.Shelf.seen c.args.shelf.now) (g.O.Shelf.seen c.start.new.shelf) c.args.limits c.args.nothing (map (λ s. g.S.Source.seen s) c.sources_of-in-Err.result.items) c.in-Err.fault all c.in-Err.ensures.write c.in-Err.ensures.nothing c.requires.nothing)
+    (unbegun_ends options before c.args.setups.items c.args.pumps.items (g.O.Shelf.seen c.args.shelf.now) (g.O.Shelf.seen c.start.new.shelf) c.args.limits c.args.nothing (map (λ s. g.S.Source.seen s) c.sources_of-in-Err.result.items) c.in-Err.fault all c.in-Err.ensures.write c.in-Err.ensures.nothing none c.in-Err.ensures.kept)
 
 pub returns-in-Err-clause-back : goal.returns-in-Err-clause-back
 returns-in-Err-clause-back g c options before all =

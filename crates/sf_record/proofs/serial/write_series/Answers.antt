@@ -3,6 +3,7 @@ use Rattle.sf_record.specs.declared.serial_end.SerialOutcome.{SerialOutcome}
 use Rattle.sf_record.specs.Pumping.{Pumping}
 use Rattle.sf_record.specs.Serial.{lowest_fault}
 use Rattle.sf_record.specs.inner.Finishing.{WriteEnds}
+use Rattle.sf_record.proofs.Deals.{dealt_by}
 use Rattle.sf_record.proofs.Errors.{if_err_then, on_ok_then}
 use Rattle.sf_record.proofs.Finishing.{Wrote, made_kept, write_ends}
 use Rattle.sf_record.proofs.Ready.{ready_of}
@@ -23,7 +24,8 @@ returns-clause-ends g c begun state d0 turn =
       own = (t.same.setups, t.same.limits);
       done = on_ok_then c.deal-dealt.result (λ h. let d = h begun state d0 in (d.0, d.1, d.2, d.3, d.4 turn)) t.done;
       limit = λ shown e. let d = t.limit shown e begun state d0 in (d.0, d.1, ready_of d.1 d.2, d.3 turn);
-      stands = t.stands begun state d0;
+      stands = (let d = t.stands begun state d0 in (d.after, d.stands));
+      dealt_to = dealt_by (λ any. turn) (t.stands begun state d0);
       goes = t.goes;
       ended = t.ended;
       write = t.write;
@@ -32,6 +34,7 @@ returns-clause-ends g c begun state d0 turn =
       stopped = λ shown e. f.limit shown e begun;
       broken = if_err_then c.finish-report.result.1 (λ fault h breaks. h breaks begun) f.broken;
       again = λ fault is breaks. (f.again fault is breaks).0;
+      stays = λ fault is breaks. f.stays fault is breaks begun;
       none = f.ended;
       failed = f.write;
       at_end = f.later;
@@ -50,7 +53,8 @@ returns-clause-kept g c begun state d0 turn =
       own = (t.same.setups, t.same.limits);
       done = on_ok_then c.deal-dealt.result (λ h. let d = h begun state d0 in (d.0, d.1, d.2, d.3, d.4 turn)) t.done;
       limit = λ shown e. let d = t.limit shown e begun state d0 in (d.0, d.1, ready_of d.1 d.2, d.3 turn);
-      stands = t.stands begun state d0;
+      stands = (let d = t.stands begun state d0 in (d.after, d.stands));
+      dealt_to = dealt_by (λ any. turn) (t.stands begun state d0);
       goes = t.goes;
       ended = t.ended;
       write = t.write;
@@ -59,6 +63,7 @@ returns-clause-kept g c begun state d0 turn =
       stopped = λ shown e. f.limit shown e begun;
       broken = if_err_then c.finish-report.result.1 (λ fault h breaks. h breaks begun) f.broken;
       again = λ fault is breaks. (f.again fault is breaks).0;
+      stays = λ fault is breaks. f.stays fault is breaks begun;
       none = f.ended;
       failed = f.write;
       at_end = f.later;
