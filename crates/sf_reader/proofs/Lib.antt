@@ -1,0 +1,4 @@
+pub mod DumpLemmas
+pub mod MissingLemmas
+pub mod ReaderLemmas
+pub mod WithinLemmas
