@@ -10,12 +10,11 @@ use Rattle.sf_entry.specs.declared.track_setup.TrackSetup.{TrackSetup}
 use Rattle.sf_world.specs.Views.{ShelfView}
 use Rattle.sf_interleave.specs.Waiting.{OfTheirTracks, earliest_front, list_of}
 use Rattle.sf_interleave.proofs.WaitingLaws.{picked_first}
-use Rattle.sf_series.proofs.Lists.{some_inside}
 use Rattle.sf_series.specs.declared.faults.SeriesFault.{SeriesFault}
 use Rattle.sf_series.specs.declared.faults.SeriesFault.TheVariants.{Limit as LimitMet, NoMemory, WriteFault}
 use Rattle.sf_series.specs.declared.limits.Limits.{Limits}
 use Rattle.sf_series.specs.declared.limits.LimitShown.{LimitShown}
-use Rattle.sf_series.specs.Core.{State, failed, is_filled, put_in, write, write_picked}
+use Rattle.sf_series.specs.Core.{State, failed, is_filled, put_in, write, write_picked, taken as with_taken}
 use Rattle.sf_series.specs.Fitting.{AreProper}
 use Rattle.sf_series.specs.Kept.{Kept}
 use Rattle.sf_series.specs.Series.{Breaks, OpenFiles, OpenSeries, Stands as SeriesStands, wrote_as}
@@ -23,10 +22,7 @@ use Rattle.sf_series.specs.declared.series.Wrote.{Wrote}
 use Rattle.sf_series.specs.declared.series.Wrote.TheVariants.{Idle, OneChunk}
 use Rattle.sf_series.specs.Switching.{Put, Into, Next, Limit, put}
 use Rattle.sf_series.specs.inner.Writing.{SameSetups}
-use Rattle.sf_series.proofs.Kept.{read_other, read_set}
-use Rattle.sf_series.proofs.Proper.{found_inside, list_other, mark_other}
-use Rattle.sf_series.proofs.SeriesLaws.{hand_kept, hand_proper, write_kept, write_proper}
-use Rattle.sf_series.proofs.Standing.{taken as with_taken}
+use Rattle.sf_series.proofs.SeriesLaws.{hand_kept, hand_proper, list_other, mark_other, read_other, read_set, some_inside, write_kept, write_proper}
 use Rattle.sf_record.specs.Pumping.{Pumping}
 use Rattle.sf_record.proofs.Counted.{failed_turn}
 use Rattle.sf_record.specs.inner.InTurn.{InTurn}
@@ -37,7 +33,7 @@ pub feeds_of : {begun shelf : ShelfView} {state : State} {pumps : List Pumping} 
     → Feeds begun shelf state k pump series
 feeds_of {begun} {shelf} {state} {pumps} {series} k pump d at =
     let t = d.tracks k pump at in
-    let inside = found_inside series.files.setups k t.setup t.there in
+    let inside = slice_get_within series.files.setups k t.setup t.there in
     record { stands = d.stands; setup = t.setup; there = t.there; long = omega (arith, inside, d.kept.tracks, d.stands.handed); hands = t.hands }
 
 -- What stays of a track over a step: what was handed of it, its mark, and which of its chunks wait.

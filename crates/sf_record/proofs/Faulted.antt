@@ -21,8 +21,7 @@ use Rattle.sf_series.specs.ReadBack.{Begin, Gained, ReadToFault}
 use Rattle.sf_series.specs.Series.{OpenSeries}
 use Rattle.sf_series.specs.Shelved.{AllKept, BrokenOn, closed_in}
 use Rattle.sf_series.specs.Switching.{closed_length, passes, switched}
-use Rattle.sf_series.proofs.SeriesLaws.{broken_back, failed_there, finished_back, stopped_back}
-use Rattle.sf_series.proofs.Shelving.{closed_long, closed_more, closed_open}
+use Rattle.sf_series.proofs.SeriesLaws.{broken_back, closed_long, closed_more, closed_open, failed_there, finished_back, stopped_back}
 use Rattle.sf_series.proofs.WrittenOut.{written_handed, written_kept}
 use Rattle.sf_record.specs.Pumping.{Pumping}
 use Rattle.sf_record.specs.Said.{Said}

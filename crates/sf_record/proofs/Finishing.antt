@@ -21,7 +21,7 @@ use Rattle.sf_series.specs.Switching.{Put, Into, Next, Limit as PastLimit, files
 use Rattle.sf_series.specs.Names.{file_name, names_to}
 use Rattle.sf_series.specs.Series.{Breaks, MeetsLimit, OpenSeries, Stands as SeriesStands}
 use Rattle.sf_series.specs.Shelved.{AllKept, BrokenOn, closed_in, with_files}
-use Rattle.sf_series.proofs.Shelving.{closed_long, long_into}
+use Rattle.sf_series.proofs.SeriesLaws.{closed_long, long_into}
 use Rattle.sf_tick.specs.declared.types.Chunk.{Chunk}
 use Rattle.sf_record.specs.declared.faults.InputFault.{InputFault}
 use Rattle.sf_record.specs.declared.faults.InputFault.TheVariants.{Coded, Setup as SetupRefused, Sample as SampleRefused}

@@ -3,6 +3,7 @@ use Rattle.std.proofs.Common.{◌≡◌, ℕ, zero, suc, ◌+◌, ◌-◌, ◌*�
 use Rattle.std.specs.Prelude.{get_or, slice_get}
 use Rattle.std.specs.List.{AllByRecursion}
 use Rattle.std.specs.Option.{option_to_list}
+use Rattle.std.proofs.lemmas.Option.{slice_get_within}
 use Rattle.std.proofs.lemmas.List.{append-nil}
 use Rattle.std.proofs.lemmas.List.Elements.{filter-append}
 use Rattle.std.proofs.lemmas.Bool.Decides.{nat_tests}
@@ -15,15 +16,13 @@ use Rattle.sf_gather.specs.Accepting.{last_of}
 use Rattle.sf_gather.specs.Chunks.{belongs, chunk_of, chunks_from, without_last}
 use Rattle.sf_gather.specs.Gathered.{Gathered}
 use Rattle.sf_gather.specs.Proper.{AreChunks, Extends, OnlyLastMarked, Proper, Tail, ends_marked, samples_of, tail_of}
-use Rattle.sf_gather.proofs.GatherLaws.{proper_extends}
-use Rattle.sf_gather.proofs.Tails.{proper_front}
+use Rattle.sf_gather.proofs.GatherLaws.{proper_extends, proper_front}
 use Rattle.sf_interleave.specs.Waiting.{how_many, list_of, with_chunk}
 use Rattle.sf_series.specs.declared.faults.SeriesFault.{SeriesFault}
-use Rattle.sf_series.specs.Core.{State, hand, is_filled}
+use Rattle.sf_series.specs.Core.{State, hand, is_filled, taken as with_taken}
 use Rattle.sf_series.specs.Fitting.{CanHand, tail_in}
 use Rattle.sf_series.specs.Series.{OpenFiles, OpenSeries, Stands as SeriesStands}
-use Rattle.sf_series.proofs.Proper.{found_inside, list_long}
-use Rattle.sf_series.proofs.Standing.{hand_taken, taken as with_taken}
+use Rattle.sf_series.proofs.SeriesLaws.{hand_taken, list_long}
 use Rattle.sf_record.specs.Limits.{filled}
 use Rattle.sf_record.specs.Pumping.{Pumping, Stands, StepsTo, Works, given_chunks, left, turns_left}
 use Rattle.sf_record.specs.declared.pump.Stepped.{Stepped}
@@ -183,7 +182,7 @@ fed {begun} {shelf} {state} {number} {pump} {after} {series} {new} chunk f goes_
     let setups = ap (λ (fs : OpenFiles). fs.setups) files in
     let ended : state.ended ≡ false = sym f.stands.ended ∙ ap (λ (o : Option SeriesFault). is_some o) goes_on in
     let is : hand state chunk ≡ with_taken state chunk = hand_taken state chunk ended in
-    let inside : number < length series.files.setups = found_inside series.files.setups number f.setup f.there in
+    let inside : number < length series.files.setups = slice_get_within series.files.setups number f.setup f.there in
     let handed : number < length state.handed = omega (arith, inside, f.stands.handed) in
     let marked : number < length state.marks = omega (arith, inside, f.stands.marks) in
     let unmarked : get_or state.marks number false ≡ false = f.hands.mark ∙ go.goes_on.goes_on in

@@ -10,15 +10,13 @@ use Rattle.sf_entry.specs.declared.track_setup.TrackSetup.{TrackSetup}
 use Rattle.sf_interleave.specs.Waiting.{OfTheirTracks, earliest_front, list_of, with_chunk, without_front}
 use Rattle.sf_interleave.proofs.WaitingLaws.{picked_first}
 use Rattle.sf_series.specs.declared.limits.Limits.{Limits}
-use Rattle.sf_series.specs.Core.{State, fresh, hand, is_filled, put_in, with_mark, write, write_picked}
+use Rattle.sf_series.specs.Core.{State, fresh, hand, is_filled, put_in, with_mark, write, write_picked, taken as with_taken}
 use Rattle.sf_series.specs.Ending.{written}
 use Rattle.sf_series.specs.Files.{flat}
 use Rattle.sf_series.specs.Kept.{Kept}
 use Rattle.sf_series.specs.Order.{in_order}
 use Rattle.sf_series.specs.Switching.{Put, Into, Next, Limit, put}
-use Rattle.sf_series.proofs.Proper.{mark_other}
-use Rattle.sf_series.proofs.SeriesLaws.{flat_into, flat_next, order_next, order_none, same_fronts, write_kept}
-use Rattle.sf_series.proofs.Standing.{taken as with_taken}
+use Rattle.sf_series.proofs.SeriesLaws.{flat_into, flat_next, mark_other, order_next, order_none, same_fronts, write_kept}
 use Rattle.sf_series.proofs.WrittenOut.{written_keeps}
 use Rattle.sf_record.specs.inner.InTurn.{AllReady, InTurn, MayCome, with_rests}
 

@@ -15,7 +15,7 @@ use Rattle.sf_gather.specs.declared.given.Options.{Options}
 use Rattle.sf_gather.specs.Chunks.{belongs, chunks, chunks_from, closed}
 use Rattle.sf_gather.specs.Proper.{OnlyLastMarked, ends_marked}
 use Rattle.sf_gather.specs.Gathered.{Gathered}
-use Rattle.sf_gather.proofs.Growing.{closed_first}
+use Rattle.sf_gather.proofs.GatherLaws.{closed_first}
 use Rattle.sf_interleave.specs.Waiting.{list_of}
 use Rattle.sf_series.specs.Core.{State}
 use Rattle.sf_record.specs.declared.faults.TrackFault.{TrackFault}

@@ -2,6 +2,7 @@
 use Rattle.std.proofs.Common.{◌≡◌, ℕ, zero, suc, ◌+◌, ◌<◌, ◌≤◌, true, false, List, [], ◌∷◌, ◌++◌, length, Option, Some, refl, sym, ap, ◌∙◌, subst, inl, inr, append-nil, arith}
 use Rattle.std.specs.Prelude.{get_or, slice_get}
 use Rattle.std.specs.Option.{option_to_list}
+use Rattle.std.proofs.lemmas.Option.{slice_get_within}
 use Rattle.sf_tick.specs.declared.types.Stored.{Stored}
 use Rattle.sf_tick.specs.declared.types.Chunk.{Chunk}
 use Rattle.sf_entry.specs.declared.track_setup.TrackSetup.{TrackSetup}
@@ -16,7 +17,6 @@ use Rattle.sf_series.specs.declared.limits.LimitShown.{LimitShown}
 use Rattle.sf_series.specs.Core.{State, put_in, write, write_picked}
 use Rattle.sf_series.specs.Series.{MeetsLimit, OpenSeries}
 use Rattle.sf_series.specs.Switching.{Put}
-use Rattle.sf_series.proofs.Proper.{found_inside}
 use Rattle.sf_record.specs.Pumping.{Ended, Pumping, Works, given_chunks}
 use Rattle.sf_record.specs.inner.Dealing.{AllWait, Deals, HandedOne, Hands, IsOver}
 use Rattle.sf_record.specs.inner.InTurn.{AllReady, InTurn}
@@ -68,7 +68,7 @@ one_turn {begun} {shelf} {state} {after} {pumps} {series} setups k d own one tur
     elim one [
       | inl e ↦ subst (λ (st : State). InTurn st) (sym e) turn
       | inr h ↦ (
-          let inside : h.0.track < length setups = found_inside setups h.0.track h.2.setup h.2.there in
+          let inside : h.0.track < length setups = slice_get_within setups h.0.track h.2.setup h.2.there in
           let long : length series.files.setups ≡ length setups = ap (λ (ss : List TrackSetup). length ss) own in
           let handed : h.0.track < length state.handed = omega (arith, inside, long, d.stands.handed) in
           let waits : h.0.track < length state.pending = omega (arith, handed, d.kept.tracks) in

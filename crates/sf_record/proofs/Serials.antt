@@ -2,6 +2,7 @@
 use Rattle.std.proofs.Common.{◌≡◌, ℕ, zero, suc, ◌+◌, ◌*◌, ◌^◌, ◌<◌, ◌≤◌, Bool, true, false, List, [], ◌∷◌, ◌++◌, length, map, Option, Some, None, refl, sym, ap, subst, ◌∙◌, inl, inr, arith, append-nil}
 use Rattle.std.specs.Prelude.{get_or, slice_get, sum_by}
 use Rattle.std.specs.List.{AllByRecursion}
+use Rattle.std.proofs.lemmas.Option.{slice_get_within}
 use Rattle.std.proofs.lemmas.List.{get_or-replicate}
 use Rattle.std.proofs.lemmas.List.Sums.{sum_by-cons}
 use Rattle.sf_tick.specs.declared.types.Chunk.{Chunk}
@@ -30,7 +31,6 @@ use Rattle.sf_series.specs.Kept.{Kept}
 use Rattle.sf_series.specs.ReadBack.{Begin, WholeReadBack}
 use Rattle.sf_series.specs.Series.{IsNothing, MeetsLimit, OpenSeries, Stands as SeriesStands}
 use Rattle.sf_layout.specs.Layout.{samples_of}
-use Rattle.sf_series.proofs.Proper.{found_inside}
 use Rattle.sf_series.proofs.SeriesLaws.{all_written, finished_back, fresh_kept, fresh_proper, stopped_back, switched_ends}
 use Rattle.sf_series.proofs.WrittenOut.{written_ended}
 use Rattle.sf_record.specs.declared.faults.TrackFault.{TrackFault}
@@ -114,7 +114,7 @@ setups_of options before setups pumps all some few =
 fresh_track : {options : Options} {before : List SourceView} {setups : List TrackSetup} {n : ℕ} {pump : Pumping} → OpenedAt (0 + n) options setups before n pump → TrackStands setups (fresh (length setups)) n pump
 fresh_track {options} {before} {setups} {n} {pump} o =
     let zero_n : 0 + n ≡ n = omega arith in
-    let inside : n < length setups = found_inside setups n o.setup o.there in
+    let inside : n < length setups = slice_get_within setups n o.setup o.there in
     record {
       setup = o.setup;
       there = o.there;

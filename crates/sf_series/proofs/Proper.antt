@@ -2,6 +2,7 @@
 use Rattle.std.proofs.Common.{◌≡◌, ℕ, zero, suc, ◌+◌, ◌<◌, ◌≢◌, Bool, true, false, cond, List, [], ◌∷◌, ◌++◌, length, get_or, set, replicate, Option, Some, None, refl, sym, subst, ap, ◌∙◌, inl, inr, arith, append-nil, get_or-set_same, get_or-set_other}
 use Rattle.std.specs.Prelude.{slice_get}
 use Rattle.std.proofs.lemmas.Bool.{cases_lt, cases_eq}
+use Rattle.std.proofs.lemmas.Option.{slice_get_within}
 use Rattle.std.proofs.lemmas.List.{length-set, length-replicate, get_or_past, get_or-replicate}
 use Rattle.std.proofs.lemmas.List.Concat.{flat_map-append}
 use Rattle.sf_tick.specs.declared.types.Stored.{Stored}
@@ -69,11 +70,6 @@ all_more number (suc at) (setup ∷ setups) lists c own e is less more all =
     let other : c.track ≡ number → ⊥ = λ (w : c.track ≡ number). omega arith in
     (subst P (sym (same_list lists c number other)) all.0, all_more (number + 1) at setups lists c own (omega arith) is less more all.1)
 
-pub found_inside : (setups : List TrackSetup) (at : ℕ) (own : TrackSetup) → slice_get setups at ≡ Some own → at < length setups
-found_inside [] at own e = cc
-found_inside (setup ∷ setups) zero own e = omega arith
-found_inside (setup ∷ setups) (suc at) own e = let more = found_inside setups at own e in omega arith
-
 -- the marks, and how long they are
 pub mark_long : (b : Bool) (marks : List Bool) (t : ℕ) → length (cond b (set marks t true) marks) ≡ length marks
 mark_long true marks t = length-set marks t true
@@ -120,7 +116,7 @@ hand_if false setups state new old more = more
 -- what was handed is proper with a chunk that can be handed
 pub hand_proper : (setups : List TrackSetup) (state : State) (c : Chunk) → AreProper setups state → CanHand setups state c → AreProper setups (hand state c)
 hand_proper setups state c p can =
-    let inside : c.track < length setups = found_inside setups c.track can.setup can.there in
+    let inside : c.track < length setups = slice_get_within setups c.track can.setup can.there in
     let less : c.track < length state.handed = omega (arith, p.tracks) in
     let long : c.track < length state.marks = omega (arith, p.marks) in
     let from_0 : 0 + c.track ≡ c.track = omega arith in

@@ -13,6 +13,9 @@ use Rattle.sf_series.specs.Within.{Within}
 use Rattle.sf_series.specs.Dealt.{order_of, dealt}
 pub use Rattle.sf_series.proofs.Files.{flat_into, flat_next}
 pub use Rattle.sf_series.proofs.Switching.{switched_ends}
+pub use Rattle.sf_series.proofs.Kept.{read_other, read_set}
+pub use Rattle.sf_series.proofs.Lists.{some_inside}
+pub use Rattle.sf_series.proofs.Shelving.{closed_long, closed_more, closed_open, long_into}
 pub use Rattle.sf_series.proofs.Steps.{fresh_kept, hand_kept, write_kept, core_kept, failed_there, write_into, write_next, write_limit, write_idle}
 pub use Rattle.sf_series.proofs.Dealt.{files_dealt}
 pub use Rattle.sf_series.proofs.Shown.{put_shows}
@@ -20,8 +23,9 @@ pub use Rattle.sf_series.proofs.Within.{put_within, switched_within}
 pub use Rattle.sf_series.proofs.Order.{order_next, order_none, order_is, same_fronts, proper_rises}
 pub use Rattle.sf_series.proofs.WriteOrder.{order_said}
 pub use Rattle.sf_series.proofs.ReadBack.{files_within, files_writable, files_joined, handed_joined, bytes_dealt, all_written, next_handed}
-pub use Rattle.sf_series.proofs.Proper.{fresh_proper, hand_proper, write_proper}
+pub use Rattle.sf_series.proofs.Proper.{fresh_proper, hand_proper, write_proper, list_long, list_other, mark_other}
 pub use Rattle.sf_series.proofs.SeriesBack.{finished_back, stopped_back, broken_back}
+pub use Rattle.sf_series.proofs.Standing.{hand_taken}
 pub use Rattle.sf_series.proofs.Handed.{handed_front, handed_all, handed_tracks}
 
 pub core_there : (limits : Limits) (setups : List TrackSetup) (tracks : ℕ) (steps : List Step) (track : ℕ)
@@ -64,3 +68,7 @@ pub ruleset read_laws = (files_writable, files_joined, handed_joined, order_said
 pub ruleset earliest_laws = (order_next, order_none, order_is, same_fronts, proper_rises)
 
 pub ruleset series_laws = (finished_back, stopped_back, broken_back)
+
+pub ruleset hand_laws = (hand_taken, list_long, list_other, mark_other, some_inside, read_set, read_other)
+
+pub ruleset open_laws = (closed_open, closed_long, closed_more, long_into)

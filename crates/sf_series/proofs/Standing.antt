@@ -4,7 +4,7 @@ use Rattle.std.specs.Prelude.{get_or, slice_get}
 use Rattle.std.proofs.lemmas.Bool.Decides.{eqb_tells, nat_tests}
 use Rattle.std.proofs.lemmas.List.{length-set, length-replicate, get_or-replicate}
 use Rattle.std.proofs.lemmas.List.Concat.{flat_map-append}
-use Rattle.std.proofs.lemmas.Option.{slice_get-get_or}
+use Rattle.std.proofs.lemmas.Option.{slice_get-get_or, slice_get_within}
 use Rattle.sf_tick.specs.declared.types.Stored.{Stored}
 use Rattle.sf_tick.specs.declared.types.Chunk.{Chunk}
 use Rattle.sf_entry.specs.declared.track_setup.TrackSetup.{TrackSetup}
@@ -18,14 +18,14 @@ use Rattle.sf_series.specs.declared.faults.SeriesFault.{SeriesFault}
 use Rattle.sf_series.specs.declared.faults.SeriesFault.TheVariants.{Limit as LimitMet, NoMemory, WriteFault}
 use Rattle.sf_series.specs.declared.limits.Limits.{Limits}
 use Rattle.sf_series.specs.declared.limits.LimitShown.{LimitShown}
-use Rattle.sf_series.specs.Core.{State, failed, fresh, hand, is_filled, put_in, with_filled, with_mark, write, write_picked}
+use Rattle.sf_series.specs.Core.{State, failed, fresh, hand, is_filled, put_in, taken, with_filled, with_mark, write, write_picked}
 use Rattle.sf_series.specs.Fitting.{CanHand, tail_in}
 use Rattle.sf_series.specs.Series.{Breaks, CanTake, FilesStand, MeetsLimit, OpenFiles, OpenSeries, Stands}
 use Rattle.sf_series.specs.Switching.{Put, Into, Next, Limit, files_after, put}
 use Rattle.sf_series.specs.inner.Tails.{tail_with}
 use Rattle.sf_series.specs.inner.Writing.{SameSetups}
 use Rattle.sf_series.proofs.Kept.{read_other, read_set}
-use Rattle.sf_series.proofs.Proper.{found_inside, list_long, list_other, mark_long, mark_other}
+use Rattle.sf_series.proofs.Proper.{list_long, list_other, mark_long, mark_other}
 use Rattle.sf_series.proofs.Steps.{write_idle, write_limit}
 
 -- what can be handed by the core can be handed to the series
@@ -35,7 +35,7 @@ takes {begun} {shelf} {state} {series} c s can =
       setup = can.setup;
       tail = tail_in state c.track;
       there = can.there;
-      handed = s.tails c.track (found_inside series.files.setups c.track can.setup can.there);
+      handed = s.tails c.track (slice_get_within series.files.setups c.track can.setup can.there);
       goes_on = can.goes_on;
     }
 
@@ -61,10 +61,6 @@ fresh_stands {begun} {shelf} {series} setups pending tails same files fault =
       ended = ap (λ (o : Option SeriesFault). is_some o) fault;
       limit = λ shown e. let wrong : None ≡ Some (LimitMet shown) = sym fault ∙ e in cc;
     }
-
--- the state after a chunk that is handed while writing goes on
-abbrev pub taken : State → Chunk → State
-taken state c = record state { handed = with_filled state.handed c; pending = with_filled state.pending c; marks = with_mark state.marks c }
 
 unended : (b : Bool) (x y : State) → b ≡ false → cond b x y ≡ y
 unended true x y e = cc

@@ -92,4 +92,4 @@ pub written_all : (n : ℕ) (limits : Limits) (setups : List TrackSetup) (state 
 written_all n limits setups state track k e =
     all_written limits setups (written n limits setups state) track (written_kept n limits setups state k) e ∙ ap (λ (lists : List (List Chunk)). list_of lists track) (written_handed n limits setups state)
 
-pub ruleset written_laws = (written_kept, written_proper, written_handed, written_all)
+pub ruleset written_laws = (written_keeps, written_ended, written_kept, written_proper, written_handed, written_all)

@@ -30,11 +30,13 @@ with_filled lists chunk = if is_filled chunk then with_chunk lists chunk else li
 abbrev pub with_mark : List Bool → Chunk → List Bool
 with_mark marks chunk = if chunk.last then set marks chunk.track true else marks
 
+-- the state with a chunk that is taken, in what was handed and in what waits
+abbrev pub taken : State → Chunk → State
+taken state chunk = record state { handed = with_filled state.handed chunk; pending = with_filled state.pending chunk; marks = with_mark state.marks chunk }
+
 -- a chunk is handed; where nothing more is written it changes nothing
 abbrev pub hand : State → Chunk → State
-hand state chunk =
-    if state.ended then state
-    else record state { handed = with_filled state.handed chunk; pending = with_filled state.pending chunk; marks = with_mark state.marks chunk }
+hand state chunk = if state.ended then state else taken state chunk
 
 -- a chunk that waits is put into files, or a limit ends them
 abbrev pub put_in : State → Chunk → Put → State

@@ -1,6 +1,6 @@
 //! What holds of a series of files, over lists alone. The crates above build on these laws.
 
-ghost use Rattle.std.specs.Prelude.{drop, slice_get, ◌≡◌, ℕ, ◌<◌, Bool, true, false, List, [], ◌∷◌, ◌++◌, length, map, Some, None};
+ghost use Rattle.std.specs.Prelude.{drop, get_or, set, slice_get, ◌≡◌, ℕ, ◌+◌, ◌<◌, ◌≤◌, ⊥, if◌then◌else◌, Bool, true, false, List, [], ◌∷◌, ◌++◌, length, map, Some, None};
 ghost use Rattle.std.specs.List.{AllByRecursion};
 ghost use Rattle.sf_tick.specs.declared.types.Chunk.{Chunk};
 ghost use Rattle.sf_entry.specs.declared.track_setup.TrackSetup.{TrackSetup};
@@ -8,12 +8,12 @@ ghost use Rattle.sf_meaning.specs.Joined.{joined};
 ghost use Rattle.sf_meaning.specs.Rows.{held_as};
 ghost use Rattle.sf_layout.specs.Layout.{layout, samples_of};
 ghost use Rattle.sf_layout.specs.Writable.{Writable};
-ghost use Rattle.sf_interleave.specs.Waiting.{OfTheirTracks, earliest_front, list_of, without_front};
+ghost use Rattle.sf_interleave.specs.Waiting.{OfTheirTracks, earliest_front, list_of, with_chunk, without_front};
 ghost use Rattle.sf_series.specs.declared.limits.Limits.{Limits};
 ghost use Rattle.sf_series.specs.declared.limits.LimitShown.{LimitShown};
-ghost use Rattle.sf_series.specs.Files.{chunks_of_track, flat, into_next, into_open, OnlyOpenEmpty};
+ghost use Rattle.sf_series.specs.Files.{chunks_of_track, flat, into_next, into_open, open_file, OnlyOpenEmpty};
 ghost use Rattle.sf_series.specs.Switching.{Into, Limit, Next, Put, Shows, closed_length, count_of, files_after, passes, put, switched};
-ghost use Rattle.sf_series.specs.Core.{State, after, failed, fresh, hand, handed_in, write};
+ghost use Rattle.sf_series.specs.Core.{State, after, failed, fresh, hand, handed_in, taken, write};
 ghost use Rattle.sf_series.specs.Core as core;
 ghost use Rattle.sf_series.specs.Ending.{Broken, Finished, Stopped, written};
 ghost use Rattle.sf_series.specs.ReadBack.{Begin, ReadToFault, ReadToLimit, WholeReadBack};
@@ -23,6 +23,7 @@ ghost use Rattle.sf_file.specs.Open.{AreSetups};
 ghost use Rattle.sf_series.specs.Kept.{Kept};
 ghost use Rattle.sf_series.specs.Series.{CanTake, OpenSeries, Stands};
 ghost use Rattle.sf_world.specs.Views.{ShelfView};
+ghost use Rattle.sf_series.specs.Shelved.{closed_in};
 ghost use Rattle.sf_series.specs.Within.{Within};
 ghost use Rattle.sf_series.specs.Order.{InOrder, Rises, in_order};
 ghost use Rattle.sf_gather.specs.Proper.{Proper};
@@ -92,6 +93,30 @@ pub fn files_are_switched()
     ensures some { (limits : Limits) (setups : List TrackSetup) (tracks : ℕ) (steps : List core.Step) → OnlyOpenEmpty (after limits setups (fresh tracks) steps).files }
 {}
 
+/// A law: a chunk that is handed is taken, until the core ended. One that joins its track's list, or none, leaves the number
+/// of the lists, those of the other tracks and the marks of these as they were. A track with a chunk in its list is one of
+/// the lists. Of a list of which one item is replaced, that one is the new one, and the others stay.
+#[tactic(auto, using(crate::proofs::SeriesLaws::hand_laws))]
+pub fn chunks_are_handed()
+    ensures taken { (state : State) (chunk : Chunk) → state.ended ≡ false → hand state chunk ≡ taken state chunk }
+    ensures many { (joins : Bool) (lists : List (List Chunk)) (chunk : Chunk) → length (if joins then with_chunk lists chunk else lists) ≡ length lists }
+    ensures lists { (joins : Bool) (lists : List (List Chunk)) (chunk : Chunk) (track : ℕ) → (chunk.track ≡ track → ⊥)
+        → list_of (if joins then with_chunk lists chunk else lists) track ≡ list_of lists track }
+    ensures marks { (ends : Bool) (marks : List Bool) (at track : ℕ) → (at ≡ track → ⊥) → get_or (if ends then set marks at true else marks) track false ≡ get_or marks track false }
+    ensures inside { (lists : List (List Chunk)) (track : ℕ) (chunk : Chunk) (rest : List Chunk) → list_of lists track ≡ chunk ∷ rest → track < length lists }
+    ensures new { (A : Type 0) (items : List A) (at : ℕ) (old new : A) → slice_get items at ≡ Some old → slice_get (set items at new) at ≡ Some new }
+    ensures old { (A : Type 0) (items : List A) (at other : ℕ) (new : A) → (at ≡ other → ⊥) → slice_get (set items at new) other ≡ slice_get items other }
+{}
+
+/// A law: files are those that are closed and then the open one. One more file closes them all, one more chunk none.
+#[tactic(auto, using(crate::proofs::SeriesLaws::open_laws))]
+pub fn last_file_is_open()
+    ensures all { (files : List (List Chunk)) → 1 ≤ length files → closed_in files ++ open_file files ∷ [] ≡ files }
+    ensures closed { (files : List (List Chunk)) → 1 ≤ length files → length (closed_in files) + 1 ≡ length files }
+    ensures file { (files : List (List Chunk)) (file : List Chunk) → closed_in (files ++ file ∷ []) ≡ files }
+    ensures chunk { (files : List (List Chunk)) (chunk : Chunk) → 1 ≤ length files → length (into_open files chunk) ≡ length files }
+{}
+
 /// A law: the tracks of the chunks of files, in the order in which they were written, give the files back, from lists that
 /// begin with the chunks of each track; so they do from the lists of what was handed.
 #[tactic(auto, using(crate::proofs::SeriesLaws::dealt_laws))]
@@ -151,10 +176,12 @@ pub fn files_are_read_back()
         → write_order (length setups) (layout setups file) ≡ order_of file }
 {}
 
-/// A law: what several writes keep of a state, unless a limit ends them. Where none waits after them, all that was handed
-/// stands in files.
+/// A law: several writes keep of a state what each write keeps, and change nothing once it ended. Where none waits after
+/// them, all that was handed stands in files.
 #[tactic(auto, using(crate::proofs::WrittenOut::written_laws))]
 pub fn several_writes_keep()
+    ensures each { (P : State → Type 0) (count : ℕ) (limits : Limits) (setups : List TrackSetup) (state : State) → ((s : State) → P s → P (write limits setups s)) → P state → P (written count limits setups state) }
+    ensures ended { (count : ℕ) (limits : Limits) (setups : List TrackSetup) (state : State) → state.ended ≡ true → written count limits setups state ≡ state }
     ensures kept { (count : ℕ) (limits : Limits) (setups : List TrackSetup) (state : State) → Kept limits setups state → Kept limits setups (written count limits setups state) }
     ensures proper { (count : ℕ) (limits : Limits) (setups : List TrackSetup) (state : State) → AreProper setups state → AreProper setups (written count limits setups state) }
     ensures handed { (count : ℕ) (limits : Limits) (setups : List TrackSetup) (state : State) → (written count limits setups state).handed ≡ state.handed }
