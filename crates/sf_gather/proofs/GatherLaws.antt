@@ -2,6 +2,6 @@
 pub use Rattle.sf_gather.proofs.Accepted.{follow_append, append_follows, last_from-append, refusal_tells}
 pub use Rattle.sf_gather.proofs.Growing.{closed_first}
 pub use Rattle.sf_gather.proofs.ProperLists.{chunks_joined}
-pub use Rattle.sf_gather.proofs.Tails.{proper_extends, proper_front}
+pub use Rattle.sf_gather.proofs.Tails.{extended_proper, proper_extends, proper_front}
 
 pub ruleset follow_laws = (follow_append, append_follows, last_from-append)

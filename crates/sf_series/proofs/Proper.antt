@@ -1,40 +1,18 @@
 -- What is handed stays proper.
-use Rattle.std.proofs.Common.{◌≡◌, ℕ, zero, suc, ◌+◌, ◌<◌, ◌≢◌, Bool, true, false, cond, List, [], ◌∷◌, ◌++◌, length, get_or, set, replicate, Option, Some, None, refl, sym, subst, ap, ◌∙◌, inl, inr, arith, append-nil, get_or-set_same, get_or-set_other}
+use Rattle.std.proofs.Common.{◌≡◌, ℕ, zero, suc, ◌+◌, ◌<◌, ◌≢◌, Bool, true, false, cond, List, [], ◌∷◌, ◌++◌, length, get_or, set, replicate, Option, Some, None, refl, sym, subst, ap, ◌∙◌, inl, inr, arith, get_or-set_same, get_or-set_other}
 use Rattle.std.specs.Prelude.{slice_get}
 use Rattle.std.proofs.lemmas.Bool.{cases_lt, cases_eq}
 use Rattle.std.proofs.lemmas.Option.{slice_get_within}
 use Rattle.std.proofs.lemmas.List.{length-set, length-replicate, get_or_past, get_or-replicate}
-use Rattle.std.proofs.lemmas.List.Concat.{flat_map-append}
-use Rattle.sf_tick.specs.declared.types.Stored.{Stored}
 use Rattle.sf_tick.specs.declared.types.Chunk.{Chunk}
 use Rattle.sf_entry.specs.declared.track_setup.TrackSetup.{TrackSetup}
-use Rattle.sf_gather.specs.Proper.{IsChunk, AreChunks, OnlyLastMarked, Extends, Proper, tail_of, ends_marked, samples_of}
-use Rattle.sf_gather.proofs.GatherLaws.{append_follows}
+use Rattle.sf_gather.specs.Proper.{Proper, ends_marked}
+use Rattle.sf_gather.proofs.GatherLaws.{extended_proper}
 use Rattle.sf_interleave.specs.Waiting.{list_of, with_chunk, earliest_front}
 use Rattle.sf_series.specs.declared.limits.Limits.{Limits}
 use Rattle.sf_series.specs.Switching.{Put, Into, Next, Limit, put}
 use Rattle.sf_series.specs.Core.{State, fresh, is_filled, with_mark, hand, put_in, write_picked, write}
 use Rattle.sf_series.specs.Fitting.{AllProper, AreProper, CanHand}
-
--- a proper list with one more chunk that goes on from it
-are_more : (t n : ℕ) (cs : List Chunk) (d : Chunk) → AreChunks t n cs → IsChunk t (n + length cs) d → AreChunks t n (cs ++ d ∷ [])
-are_more t n [] d all one = (let e : n ≡ n + 0 = omega arith in rw e one, tt)
-are_more t n (c ∷ cs) d all one = (all.0, are_more t (n + 1) cs d all.1 (let e : (n + 1) + length cs ≡ n + length (c ∷ cs) = omega arith in rw e one))
-
-marks_more : (cs : List Chunk) (d : Chunk) → OnlyLastMarked cs → ends_marked cs ≡ false → OnlyLastMarked (cs ++ d ∷ [])
-marks_more [] d all e = tt
-marks_more (c ∷ []) d all e = (e, tt)
-marks_more (c ∷ f ∷ cs) d all e = (all.0, marks_more (f ∷ cs) d all.1 e)
-
-proper_more : (t scale : ℕ) (cs : List Chunk) (d : Chunk) → Proper t scale cs → Extends t scale (tail_of cs) d → Proper t scale (cs ++ d ∷ [])
-proper_more t scale cs d proper more =
-    let join : samples_of (cs ++ d ∷ []) ≡ samples_of cs ++ d.samples = flat_map-append (λ (c : Chunk). c.samples) cs (d ∷ []) ∙ ap (λ (ss : List Stored). samples_of cs ++ ss) (append-nil d.samples) in
-    let from_0 : 0 + length cs ≡ length cs = omega arith in
-    record {
-      each = are_more t 0 cs d proper.each (rw from_0 more.itself);
-      mark = marks_more cs d proper.mark more.goes_on;
-      samples = rw join (append_follows scale None (samples_of cs) d.samples proper.samples more.samples);
-    }
 
 marked_last : (cs : List Chunk) (d : Chunk) → ends_marked (cs ++ d ∷ []) ≡ d.last
 marked_last [] d = refl
@@ -122,7 +100,7 @@ hand_proper setups state c p can =
     let from_0 : 0 + c.track ≡ c.track = omega arith in
     let new_lists : AllProper 0 setups (with_chunk state.handed c) =
     all_more 0 c.track setups state.handed c can.setup from_0 can.there less
-    (λ old. proper_more c.track can.setup.scale (list_of state.handed c.track) c old
+    (λ old. extended_proper c.track can.setup.scale (list_of state.handed c.track) c old
     (record { goes_on = p.go_on c.track can.goes_on.goes_on; itself = can.goes_on.itself; samples = can.goes_on.samples })) p.lists in
     hand_if state.ended setups state _ p (record {
       tracks = list_long (is_filled c) state.handed c ∙ p.tracks;
