@@ -13,6 +13,7 @@ use Rattle.sf_record.specs.declared.faults.InputFault.TheVariants.{Coded, Setup 
 use Rattle.sf_record.specs.declared.faults.TrackFault.{TrackFault}
 use Rattle.sf_record.specs.declared.opening.Untaken.{Untaken}
 use Rattle.sf_record.specs.declared.opening.Untaken.TheVariants.{Fault, NoMemory}
+use Rattle.sf_record.specs.declared.serial_end.SerialOutcome.TheVariants.{Refused}
 use Rattle.sf_record.specs.Input.{IsOfBytes, read_fault}
 use Rattle.sf_record.specs.Pumping.{Pumping}
 use Rattle.sf_record.specs.Said.{Said, said_in}
@@ -20,6 +21,14 @@ use Rattle.sf_record.specs.Serial.{Asked, ComeBack, EndsAtHeader, Gave, HasFault
 use Rattle.sf_record.specs.inner.Finishing.{untaken_as}
 use Rattle.sf_record.specs.inner.Opening.{AllOpened, IsUntaken, StopsAt}
 use Rattle.sf_record.proofs.Opened.{opened_long}
+
+-- the fault of a header is a failed read, or lies in the input's bytes
+header_own : {track : ℕ} {options : Options} {before after : SourceView} (fault : TrackFault) → HasFault track options before after fault → (fault ≡ read_fault) ⊎ IsOfBytes fault.why
+header_own {track} {options} {before} {after} fault has =
+    elim has [
+      | inl read ↦ read.own
+      | inr failed ↦ inl failed.0
+    ]
 
 -- a fault that is told as a failed read is one
 why_read : (fault : TrackFault) → (fault ≡ read_fault) ⊎ IsOfBytes fault.why → fault.why ≡ Coded CodedReadFault → fault ≡ read_fault
@@ -29,28 +38,30 @@ why_read fault own e =
       | inr of ↦ absurd (subst (λ (w : InputFault). IsOfBytes w) e of)
     ]
 
-read_told : {track : ℕ} {options : Options} {before after : SourceView} (fault : TrackFault) → HasFault track options before after fault → fault.why ≡ Coded CodedReadFault → fault ≡ read_fault
-read_told {track} {options} {before} {after} fault has e =
-    elim has [
-      | inl read ↦ why_read fault read.own e
-      | inr failed ↦ failed.0
+-- a fault that is told as a refusal lies in the input's bytes
+why_refused : {asked : Asked} {given : Gave} (number : ℕ) (fault : TrackFault) → (fault ≡ read_fault) ⊎ IsOfBytes fault.why → (fault.why ≡ Coded CodedReadFault → ⊥) → EndsAtHeader asked given number fault
+    → SerialEnds asked given (Refused number fault)
+why_refused {asked} {given} number fault own not e =
+    elim own [
+      | inl is ↦ absurd (not (ap (λ (f : TrackFault). f.why) is))
+      | inr of ↦ inl (of, e)
     ]
 
-ends_by : {asked : Asked} {given : Gave} (why : InputFault) (number : ℕ) (fault : TrackFault) → (fault.why ≡ Coded CodedReadFault → fault ≡ read_fault) → fault.why ≡ why → EndsAtHeader asked given number fault
+ends_by : {asked : Asked} {given : Gave} (why : InputFault) (number : ℕ) (fault : TrackFault) → (fault ≡ read_fault) ⊎ IsOfBytes fault.why → fault.why ≡ why → EndsAtHeader asked given number fault
     → SerialEnds asked given (answer_by why number fault)
-ends_by {asked} {given} (Coded CodedReadFault) number fault read is e = inl (subst (λ (f : TrackFault). EndsAtHeader asked given number f) (read is) e)
-ends_by {asked} {given} (Coded Magic) number fault read is e = inl e
-ends_by {asked} {given} (Coded (Version v)) number fault read is e = inl e
-ends_by {asked} {given} (Coded (KindCode k)) number fault read is e = inl e
-ends_by {asked} {given} (Coded (ConfigTooLong len)) number fault read is e = inl e
-ends_by {asked} {given} (Coded (Truncated at)) number fault read is e = inl e
-ends_by {asked} {given} (Coded (Tag at tag)) number fault read is e = inl e
-ends_by {asked} {given} (Coded (Empty at)) number fault read is e = inl e
-ends_by {asked} {given} (Coded (TooLong at len)) number fault read is e = inl e
-ends_by {asked} {given} (Coded (Trailing at)) number fault read is e = inl e
-ends_by {asked} {given} (Coded CodedNoMemory) number fault read is e = inl e
-ends_by {asked} {given} (SetupRefused other) number fault read is e = inl e
-ends_by {asked} {given} (SampleRefused other) number fault read is e = inl e
+ends_by {asked} {given} (Coded CodedReadFault) number fault own is e = inl (subst (λ (f : TrackFault). EndsAtHeader asked given number f) (why_read fault own is) e)
+ends_by {asked} {given} (Coded Magic) number fault own is e = why_refused number fault own (λ read. cc) e
+ends_by {asked} {given} (Coded (Version v)) number fault own is e = why_refused number fault own (λ read. cc) e
+ends_by {asked} {given} (Coded (KindCode k)) number fault own is e = why_refused number fault own (λ read. cc) e
+ends_by {asked} {given} (Coded (ConfigTooLong len)) number fault own is e = why_refused number fault own (λ read. cc) e
+ends_by {asked} {given} (Coded (Truncated at)) number fault own is e = why_refused number fault own (λ read. cc) e
+ends_by {asked} {given} (Coded (Tag at tag)) number fault own is e = why_refused number fault own (λ read. cc) e
+ends_by {asked} {given} (Coded (Empty at)) number fault own is e = why_refused number fault own (λ read. cc) e
+ends_by {asked} {given} (Coded (TooLong at len)) number fault own is e = why_refused number fault own (λ read. cc) e
+ends_by {asked} {given} (Coded (Trailing at)) number fault own is e = why_refused number fault own (λ read. cc) e
+ends_by {asked} {given} (Coded CodedNoMemory) number fault own is e = why_refused number fault own (λ read. cc) e
+ends_by {asked} {given} (SetupRefused other) number fault own is e = why_refused number fault own (λ read. cc) e
+ends_by {asked} {given} (SampleRefused other) number fault own is e = why_refused number fault own (λ read. cc) e
 
 -- the place between two lists
 between : {A : Type 0} (xs ys : List A) (x : A) (n : ℕ) → n ≡ length xs → slice_get (xs ++ x ∷ ys) n ≡ Some x
@@ -103,7 +114,7 @@ untaken_by : {options : Options} {before : List SourceView} {setups : List Track
     (s : StopsAt options before setups pumps rest all) → number ≡ length pumps → TellsNone (asked_for options limits before shelf) report → IsUntaken (length s.taken) options s.first s.after untaken
     → SerialEnds (asked_for options limits before shelf) (gave (map (λ p. p.coded.source) pumps ++ rest) shelf report) (untaken_as number untaken)
 untaken_by {options} {before} {setups} {pumps} {rest} {all} limits shelf report (Fault fault) number s is none why =
-    ends_by fault.why number fault (read_told fault why) refl (ends_at limits shelf report fault number s is none why)
+    ends_by fault.why number fault (header_own fault why) refl (ends_at limits shelf report fault number s is none why)
 untaken_by {options} {before} {setups} {pumps} {rest} {all} limits shelf report NoMemory number s is none why = inr (inl (record { made = inl (record { named = refl; kept = refl }); none = none }))
 
 -- how the recording ends where a header isn't taken

@@ -222,11 +222,11 @@ pub record RecordsToFault (asked : Asked) (given : Gave) : Type 0 where
 abbrev pub Recorded : Asked → Gave → SerialOutcome → Type 0
 Recorded asked given outcome = (setups : List TrackSetup) × (reads : List Said) × RecordsAll asked given setups reads × (outcome ≡ lowest_fault 0 (map (λ r. r.fault) reads))
 
--- How the recording of several inputs ends, by its answer.
+-- How the recording of several inputs ends, by its answer. A header that is refused is told so for a fault in the input's bytes, and a failed read of it as such.
 abbrev pub SerialEnds : Asked → Gave → SerialOutcome → Type 0
 SerialEnds asked given Done = Recorded asked given Done
 SerialEnds asked given WriteFault = Rose asked.shelf.faults given.shelf.faults × (BeginsNone asked given ⊎ RecordsToFault asked given)
 SerialEnds asked given (Limit shown) = FitsNothing asked given shown ⊎ RecordsToLimit asked given shown
-SerialEnds asked given (Refused track fault) = EndsAtHeader asked given track fault ⊎ Recorded asked given (Refused track fault)
+SerialEnds asked given (Refused track fault) = (IsOfBytes fault.why × EndsAtHeader asked given track fault) ⊎ Recorded asked given (Refused track fault)
 SerialEnds asked given (ReadFault input) = EndsAtHeader asked given input read_fault ⊎ Recorded asked given (ReadFault input)
 SerialEnds asked given NoMemory = ReadsNone asked given ⊎ BeginsNone asked given ⊎ RecordsToFault asked given
