@@ -15,9 +15,8 @@ use Rattle.sf_meaning.specs.Rows.{held_as}
 use Rattle.sf_series.specs.declared.report.Report.{Report}
 use Rattle.sf_world.specs.Views.{InputsView, ShelfView, SourceView}
 use Rattle.sf_record.specs.Input.{given_of}
-use Rattle.sf_record.specs.Limits.{filled}
 use Rattle.sf_record.specs.Said.{Said, said_in, usual}
-use Rattle.sf_record.specs.Serial.{AllRead, SaysIn, WasRead, answer_by, lists_of, lowest_fault}
+use Rattle.sf_record.specs.Serial.{AllRead, SaysIn, WasRead, answer_by, filled, lists_of, lowest_fault}
 use Rattle.sf_record.specs.declared.faults.InputFault.{InputFault}
 use Rattle.sf_record.specs.declared.faults.InputFault.TheVariants.{Coded, Setup as SetupRefused, Sample as SampleRefused}
 use Rattle.sf_record.specs.declared.faults.TrackFault.{TrackFault}

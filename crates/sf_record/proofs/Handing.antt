@@ -23,7 +23,7 @@ use Rattle.sf_series.specs.Core.{State, hand, is_filled, taken as with_taken}
 use Rattle.sf_series.specs.Fitting.{CanHand, tail_in}
 use Rattle.sf_series.specs.Series.{OpenFiles, OpenSeries, Stands as SeriesStands}
 use Rattle.sf_series.proofs.SeriesLaws.{hand_taken, list_long}
-use Rattle.sf_record.specs.Limits.{filled}
+use Rattle.sf_record.specs.Serial.{filled}
 use Rattle.sf_record.specs.Pumping.{Pumping, Stands, StepsTo, Works, given_chunks, left, turns_left}
 use Rattle.sf_record.specs.declared.pump.Stepped.{Stepped}
 use Rattle.sf_record.specs.declared.pump.Stepped.TheVariants.{Done, HasChunk, Moved, NoMemory}
@@ -312,10 +312,3 @@ pub turns_moved : (size was : ℕ) (pump after : Pumping) → was ≡ size → a
 turns_moved size was pump after same free less =
     let now : left size after < left size pump = subst (λ (n : ℕ). left n after < left n pump) same less in
     omega (arith, turns_free size after free, now)
-
-pub turns_taken : (size was : ℕ) (pump step after : Pumping) → was ≡ size → after ≡ record step { chunk = None } → 2 * left was step < turns_left was pump → turns_left size after < turns_left size pump
-turns_taken size was pump step after same rest less =
-    let now : 2 * left size step < turns_left size pump = subst (λ (n : ℕ). 2 * left n step < turns_left n pump) same less in
-    let free : after.chunk ≡ None = ap (λ (p : Pumping). p.chunk) rest in
-    let same_left : left size after ≡ left size step = ap (λ (p : Pumping). left size p) rest in
-    omega (arith, turns_free size after free, now, same_left)

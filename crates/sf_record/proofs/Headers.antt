@@ -27,9 +27,8 @@ use Rattle.sf_entry.specs.declared.track_setup.SetupFault.TheVariants as setups
 use Rattle.sf_entry.specs.declared.track_setup.TrackSetup.{TrackSetup}
 use Rattle.sf_record.specs.Input.{IsOfBytes, IsOfSetup, coded_fault, setup_fault}
 use Rattle.sf_gather.specs.declared.given.Options.{Options}
-use Rattle.sf_record.specs.Said.{Said, Says, said_by, said_in, said_unless, usual, without_setup}
+use Rattle.sf_record.specs.Said.{Said, said_by, said_in, said_unless, without_setup}
 use Rattle.sf_record.specs.Serial.{Opens, SaysIn}
-use Rattle.sf_record.specs.inner.Written.{HeaderTaken}
 
 -- the header of a setup of which a track is made
 pub header_opened : (number : ℕ) (options : Options) (contents : Option (List ℕ)) (setup : Setup) (track : TrackSetup) (place : ℕ) → Stands contents setup [] place → made setup ≡ Ok track
@@ -38,10 +37,6 @@ unfolding said_in
 header_opened number options None setup track place stands is = tt
 header_opened number options (Some bytes) setup track place stands is =
     ap (λ (c : CodedFile). said_by number options c.setup c.end bytes) stands ∙ ap (λ (r : Result TrackSetup SetupFault). said_unless number options r bytes) is
-
-pub header_taken : (contents : Option (List ℕ)) (setup : Setup) (track : TrackSetup) (place : ℕ) → Stands contents setup [] place → made setup ≡ Ok track → HeaderTaken contents track
-header_taken None setup track place stands is = tt
-header_taken (Some bytes) setup track place stands is = header_opened 0 usual (Some bytes) setup track place stands is
 
 setup_says : (number : ℕ) (options : Options) (contents : Option (List ℕ)) (setup : Setup) (place : ℕ) (fault : SetupFault) → Stands contents setup [] place → made setup ≡ Err fault
     → SaysIn number options contents (without_setup (Some (setup_fault fault)))
@@ -142,17 +137,6 @@ setup_not number options contents setup place fault stands makes not =
     let is : made setup ≡ Err fault = makes_fault setup fault makes not in
     (subst (λ (r : Result TrackSetup SetupFault). OfMade r) is (made_tells setup), setup_says number options contents setup place fault stands is)
 
--- one that is recorded alone
-says_alone : (contents : Option (List ℕ)) (said : Said) → SaysIn 0 usual contents said → Says contents said
-says_alone None said says = tt
-says_alone (Some bytes) said says = says
-
-pub setup_refused : (contents : Option (List ℕ)) (setup : Setup) (place : ℕ) (fault : SetupFault) → Stands contents setup [] place → Makes setup (Err fault) → fault ≢ setups.NoMemory
-    → IsOfBytes (setup_fault fault).why × Says contents (without_setup (Some (setup_fault fault)))
-setup_refused contents setup place fault stands makes not =
-    let refused = setup_not 0 usual contents setup place fault stands makes not in
-    (refused.0, says_alone contents (without_setup (Some (setup_fault fault))) refused.1)
-
 -- the input of a track whose header is refused
 pub header_not : (number : ℕ) (options : Options) (contents : Option (List ℕ)) (fault : CodedFault) → RefusesBy contents fault → IsOfBytes (coded_fault fault).why
     → SaysIn number options contents (without_setup (Some (coded_fault fault)))
@@ -161,6 +145,3 @@ header_not number options contents ReadFault r b = absurd b
 header_not number options contents NoMemory r b = absurd b
 header_not number options None fault r b = tt
 header_not number options (Some bytes) fault r b = sym (ap (λ (c : CodedFile). said_by number options c.setup c.end bytes) r)
-
-pub header_refused : (contents : Option (List ℕ)) (fault : CodedFault) → RefusesBy contents fault → IsOfBytes (coded_fault fault).why → Says contents (without_setup (Some (coded_fault fault)))
-header_refused contents fault r b = says_alone contents (without_setup (Some (coded_fault fault))) (header_not 0 usual contents fault r b)

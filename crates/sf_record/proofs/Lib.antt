@@ -1,11 +1,7 @@
-pub mod Limited
 pub mod Inputs
 pub mod Endings
-pub mod Copied
 pub mod Counted
-pub mod Wrote
 pub mod Headers
-pub mod Recordings
 pub mod Staying
 pub mod Errors
 pub mod Handing

@@ -2,7 +2,7 @@
 use Rattle.std.proofs.Common.{◌≡◌, ◌≢◌, ℕ, suc, ◌+◌, ◌⊎◌, true, false, is_some, List, [], ◌∷◌, ◌++◌, length, Option, Some, None, Err, refl, sym, ap, subst, ◌∙◌, inl, inr, append_assoc, arith}
 use Rattle.sf_world.specs.Views.{SourceView, Unchanged}
 use Rattle.sf_coded.specs.declared.types.CodedFault.{CodedFault}
-use Rattle.sf_coded.specs.declared.types.CodedFault.TheVariants.{Magic, Version, KindCode, ConfigTooLong, Truncated, Tag, Empty, TooLong, Trailing, ReadFault, NoMemory}
+use Rattle.sf_coded.specs.declared.types.CodedFault.TheVariants.{ReadFault}
 use Rattle.sf_coded.specs.Progress.{RefusesBy, Stands as FileStands}
 use Rattle.sf_entry.specs.TrackSetup.{Makes}
 use Rattle.sf_entry.specs.declared.track_setup.SetupFault.{SetupFault}
@@ -21,20 +21,6 @@ use Rattle.sf_record.specs.declared.opening.Untaken.TheVariants.{Fault, NoMemory
 use Rattle.sf_record.proofs.Counted.{rose_behind}
 use Rattle.sf_record.proofs.Headers.{header_not, setup_not}
 use Rattle.sf_record.specs.inner.Opening.{AllOpened, HeadersRead, IsOpened, IsUntaken, StopsAt}
-
--- a fault of a header that tells neither of the outside nor of memory lies in its bytes
-pub read_or_bytes : (fault : CodedFault) → fault ≢ NoMemory → (fault ≡ ReadFault) ⊎ IsOfBytes (coded_fault fault).why
-read_or_bytes Magic not = inr tt
-read_or_bytes (Version v) not = inr tt
-read_or_bytes (KindCode k) not = inr tt
-read_or_bytes (ConfigTooLong len) not = inr tt
-read_or_bytes (Truncated at) not = inr tt
-read_or_bytes (Tag at tag) not = inr tt
-read_or_bytes (Empty at) not = inr tt
-read_or_bytes (TooLong at len) not = inr tt
-read_or_bytes (Trailing at) not = inr tt
-read_or_bytes ReadFault not = inl refl
-read_or_bytes NoMemory not = absurd (not refl)
 
 -- as many setups and pumps as inputs
 pub opened_long : (track : ℕ) (options : Options) (before : List SourceView) (setups : List TrackSetup) (pumps : List Pumping) → AllOpened track options before setups pumps

@@ -11,9 +11,8 @@ use Rattle.sf_gather.specs.Chunks.{chunks}
 use Rattle.sf_gather.proofs.GatherLaws.{chunks_joined}
 use Rattle.sf_interleave.specs.Waiting.{list_of}
 use Rattle.sf_record.specs.Input.{given_of}
-use Rattle.sf_record.specs.Limits.{filled}
 use Rattle.sf_record.specs.Said.{Said}
-use Rattle.sf_record.specs.Serial.{lists_of}
+use Rattle.sf_record.specs.Serial.{filled, lists_of}
 use Rattle.sf_record.proofs.Errors.{nothing_left}
 
 -- an empty chunk has no samples

@@ -1,9 +1,7 @@
 pub mod inner
-pub mod Limits
 pub mod Input
 pub mod Said
 pub mod Reading
 pub mod Pumping
-pub mod Recorded
 pub mod Serial
 pub mod Called

@@ -1,5 +1,5 @@
 -- What the whole input of a recording says: the setup of its track, its samples, and its first fault.
-use Rattle.std.specs.Prelude.{◌≡◌, ℕ, List, [], Option, Some, None, option_map, Result, Ok, Err, ⊤}
+use Rattle.std.specs.Prelude.{ℕ, List, [], Option, Some, None, option_map, Result, Ok, Err}
 use Rattle.sf_tick.specs.declared.types.Setup.{Setup}
 use Rattle.sf_tick.specs.declared.types.Stored.{Stored}
 use Rattle.sf_coded.specs.CodedFile.{coded}
@@ -7,16 +7,9 @@ use Rattle.sf_coded.specs.declared.types.CodedFault.{CodedFault}
 use Rattle.sf_entry.specs.TrackSetup.{made}
 use Rattle.sf_entry.specs.declared.track_setup.SetupFault.{SetupFault}
 use Rattle.sf_entry.specs.declared.track_setup.TrackSetup.{TrackSetup}
-use Rattle.sf_gather.specs.declared.given.Given.{Given}
 use Rattle.sf_gather.specs.declared.given.Options.{Options}
-use Rattle.sf_gather.specs.Chunks.{chunks}
 use Rattle.sf_record.specs.Input.{Taken, coded_fault, given_of, input_of, setup_fault}
-use Rattle.sf_record.specs.Limits.{Put, put_all}
 use Rattle.sf_record.specs.declared.faults.TrackFault.{TrackFault}
-
--- what the one track of a recording is given: chunks of at most a second from the start 0 on
-abbrev pub given_at : TrackSetup → Given
-given_at setup = given_of 0 setup (record { start_us = 0; interleave_us = 1000000 })
 
 -- What an input says: the setup of its track, none where its header or that setup is refused; the samples that are accepted, as they are stored; and its first fault, none for a whole input.
 pub record Said : Type 0 where
@@ -49,28 +42,3 @@ said_in track options bytes = said_by track options (coded bytes).setup (coded b
 -- how samples are put into chunks where nothing else is asked for: of at most a second, from the start 0 on
 abbrev pub usual : Options
 usual = record { start_us = 0; interleave_us = 1000000 }
-
--- what the bytes of an input say that is recorded alone
-abbrev pub said_of : List ℕ → Said
-said_of bytes = said_in 0 usual bytes
-
--- an input says this where its bytes are told
-abbrev pub Says : Option (List ℕ) → Said → Type 0
-Says None said = ⊤
-Says (Some bytes) said = said ≡ said_of bytes
-
--- this holds of what an input says, which is what its bytes say where they are told
-abbrev pub OfSaid : Option (List ℕ) → (Said → Type 0) → Type 0
-OfSaid contents P = (said : Said) × Says contents said × P said
-
--- what goes into a file of these samples, of a track with this setup
-abbrev pub put_front : TrackSetup → List Stored → Put
-put_front setup samples = put_all setup (chunks (given_at setup) samples)
-
--- what goes into the file of an input; nothing where it has no setup
-abbrev pub put_by : Option TrackSetup → List Stored → Put
-put_by None samples = record { chunks = []; limit = None }
-put_by (Some setup) samples = put_front setup samples
-
-abbrev pub put_of : Said → Put
-put_of said = put_by said.setup said.samples

@@ -1,5 +1,6 @@
 -- How the recording of several inputs ends, and what their files hold.
-use Rattle.std.specs.Prelude.{◌≡◌, ℕ, ◌+◌, ◌<◌, ◌≤◌, ◌^◌, ◌⊎◌, false, List, [], ◌∷◌, ◌++◌, length, map, replicate, slice_get, Option, Some, None, IfSome, ⊤}
+use Rattle.std.specs.Prelude.{◌≡◌, ℕ, ◌+◌, ◌<◌, ◌≤◌, ◌^◌, ◌⊎◌, nat_lt, false, List, [], ◌∷◌, ◌++◌, length, map, replicate, slice_get, Option, Some, None, IfSome, ⊤}
+use Rattle.std.specs.List.{filter}
 use Rattle.sf_tick.specs.declared.types.Chunk.{Chunk}
 use Rattle.sf_tick.specs.declared.types.Stored.{Stored}
 use Rattle.sf_world.specs.Counts.{Rose}
@@ -26,7 +27,6 @@ use Rattle.sf_record.specs.declared.faults.TrackFault.{TrackFault}
 use Rattle.sf_record.specs.declared.serial_end.SerialOutcome.{SerialOutcome}
 use Rattle.sf_record.specs.declared.serial_end.SerialOutcome.TheVariants.{Done, WriteFault, Limit, Refused, ReadFault, NoMemory}
 use Rattle.sf_record.specs.Input.{IsOfBytes, given_of, input_of, read_fault}
-use Rattle.sf_record.specs.Limits.{filled}
 use Rattle.sf_record.specs.Said.{Said, behind_header, said_in, without_setup}
 
 -- Options and limits within their ranges.
@@ -80,6 +80,10 @@ abbrev pub AllRead : ℕ → Options → List SourceView → List SourceView →
 AllRead track options [] [] [] = Unit {0}
 AllRead track options (b ∷ before) (a ∷ after) (r ∷ reads) = WasRead track options b a r × AllRead (track + 1) options before after reads
 AllRead track options before after reads = ⊥
+
+-- the chunks that aren't empty
+abbrev pub filled : List Chunk → List Chunk
+filled chunks = filter (λ c. nat_lt 0 (length c.samples)) chunks
 
 -- the chunks with samples of what was read, by the setups of tracks that are numbered from here on
 abbrev pub lists_of : ℕ → Options → List TrackSetup → List Said → List (List Chunk)

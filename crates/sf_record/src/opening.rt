@@ -1,7 +1,9 @@
 //! The headers of several inputs are read, up to the first one that isn't taken.
 
-ghost use Rattle.std.specs.Prelude.{◌≡◌, ◌≢◌, ◌+◌, ◌<◌, ◌≤◌, ◌⊎◌, ◌++◌, ◌∷◌, List, false, [], length, map, vec_capacity, vec_len, IfErr, IfOk};
+ghost use Rattle.std.specs.Prelude.{◌≡◌, ◌≢◌, ◌+◌, ◌<◌, ◌≤◌, ◌⊎◌, ◌++◌, ◌∷◌, List, false, [], length, map, vec_capacity, vec_len, IfErr, IfOk, Ok};
 ghost use Rattle.sf_coded.specs.Progress.{HasRead};
+ghost use Rattle.sf_entry.specs.TrackSetup.{made};
+ghost use Rattle.sf_file.specs.Holdable.{IsReadable};
 ghost use Rattle.sf_world.specs.Views.{SourceView, Unchanged};
 ghost use Rattle.sf_record.specs.Input.{IsOfBytes, coded_fault, setup_fault};
 ghost use Rattle.sf_record.specs.inner.Opening.{HeadersRead, IsOpened, IsUntaken};
@@ -9,10 +11,11 @@ ghost use Rattle.sf_record.specs.declared.faults.TrackFault.{TrackFault};
 
 use crate::faults::{TrackFault, coded_fault, setup_fault};
 use crate::pump::Pump;
-use crate::recording::track_is_readable;
 use sf_coded::{Coded, CodedFault};
 use sf_entry::{SetupFault, TrackSetup, make_entry};
 use sf_gather::Options;
+use sf_layout::made_entries_are_read_back;
+use sf_tick::Setup;
 use sf_world::Source;
 use std::alloc::{AllocError, Global};
 
@@ -49,6 +52,18 @@ fn unmade(fault: SetupFault) -> Untaken
 struct Opened<S: Source> {
     pump: Pump<S>,
     setup: TrackSetup,
+}
+
+// A file can hold a track that is made of a setup.
+fn track_is_readable(setup: &Setup, track: &TrackSetup)
+    requires config { length setup.now.config ≤ 65536 }
+    requires made { made setup.now ≡ Ok track.now }
+    requires scale { 1 ≤ track.now.scale }
+    ensures { IsReadable track.now }
+{
+    made_entries_are_read_back();
+    // Ticks a second are a number of four bytes.
+    let _ticks = track.scale;
 }
 
 // The pump of a coded file of which no sample was read, unless no track is made of its setup.

@@ -10,8 +10,9 @@ use sf_world::{MemSource, Source};
 use std::alloc::{AllocError, Global};
 use std::test::Fail;
 
+mod ended;
 mod limits;
-mod recording;
+mod one_input;
 mod serial;
 mod whole;
 

@@ -12,8 +12,8 @@ use Rattle.sf_series.specs.Kept.{Kept}
 use Rattle.sf_series.specs.Series.{Breaks, OpenSeries, Stands as SeriesStands}
 use Rattle.sf_world.specs.Counts.{Rose}
 use Rattle.sf_world.specs.Views.{ShelfView, Unchanged}
-use Rattle.sf_record.specs.Limits.{filled}
 use Rattle.sf_record.specs.Input.{read_fault}
+use Rattle.sf_record.specs.Serial.{filled}
 use Rattle.sf_record.specs.inner.InTurn.{InTurn}
 use Rattle.sf_record.specs.Pumping.{NotEndedEarly, Pumping, Stands, turns_left}
 

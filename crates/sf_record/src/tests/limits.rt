@@ -1,10 +1,15 @@
-//! An input that meets a limit of its file.
+//! A long input that meets the limit of samples of its file.
 
-ghost use Rattle.std.specs.Prelude.{◌≡◌, ◌+◌, ◌*◌, ◌-◌, ◌<◌, ◌≤◌, min, length, None, refl};
+ghost use Rattle.std.specs.Prelude.{◌≡◌, ◌+◌, ◌*◌, ◌-◌, ◌<◌, ◌≤◌, min, length, None, refl, IfOk};
 ghost use Rattle.std.proofs.Common.{lit<};
+ghost use Rattle.sf_series.specs.Series.{AreLimits};
 
-use super::*;
+use crate::{SerialOutcome, record_serial};
+use sf_gather::Options;
+use sf_list::Text;
+use sf_series::{LimitShown, Limits};
 use sf_world::{Failed, Fits, Measure, Source, SureShelf};
+use std::alloc::{AllocError, Global};
 use std::test::Fail;
 
 /// The header of an AAC input of a million ticks a second.
@@ -81,14 +86,31 @@ impl Source for LongInput {
     }
 }
 
+/// One file, of whatever length.
+fn limits(alloc: Global) -> Result<Limits, AllocError>
+    ensures { IfOk result AreLimits }
+{
+    Ok(Limits {
+        max_bytes: 0,
+        max_duration_us: 0,
+        max_files: 1,
+        stem: Text::from_str(alloc, "out")?,
+    })
+}
+
 #[test]
 fn a_file_takes_no_chunk_with_which_it_has_too_many_samples(rt: HostRuntime) -> Result<(), Fail> {
     let alloc = rt.alloc();
     let mut shelf = SureShelf::new(alloc);
-    let input = LongInput {
+    let mut inputs = Vec::new(alloc);
+    inputs.push(LongInput {
         samples: 16_800_000,
+    })?;
+    let options = Options {
+        start_us: 0,
+        interleave_us: 1_000_000,
     };
-    let end = record_one(alloc, input, "a.mp4", &mut shelf);
+    let end = record_serial(alloc, inputs, options, limits(alloc)?, &mut shelf);
     // A chunk is a second long, both ends included: 31,251 samples. 536 chunks have 16,750,536 samples, and
     // one more would be more than 2^24.
     let limit = LimitShown::Count {
@@ -97,13 +119,11 @@ fn a_file_takes_no_chunk_with_which_it_has_too_many_samples(rt: HostRuntime) -> 
         would_be: 16_781_787,
         max: 16_777_216,
     };
-    assert_eq!(rt; end.outcome, Outcome::Limit(limit));
+    assert_eq!(rt; end.outcome, SerialOutcome::Limit(limit));
     // A file without samples has 604 bytes. There is one run of deltas (8) and one of chunks (12), and 536
     // places of chunks (4 each).
-    assert_eq!(rt;
-        (end.report.size, end.report.samples),
-        (16_753_304, 16_750_536)
-    );
+    assert!(rt; end.report.files.as_slice() == [16_753_304]);
+    assert!(rt; end.report.tracks.as_slice() == [16_750_536]);
     assert_eq!(rt; shelf.file(0).map(|file| file.len()), Some(16_753_304));
     assert!(rt; shelf.file(1).is_none());
     Ok(())
