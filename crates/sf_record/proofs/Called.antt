@@ -104,8 +104,9 @@ recorded_called {asked} {given} outcome inputs told not rec =
 limit_called : {asked : Asked} {given : Gave} (shown : LimitShown) (inputs : List (List ℕ)) → TellBytes asked.sources inputs → NothingFailed asked given → RecordsToLimit asked given shown → Limit shown ≡ called_for asked.options asked.limits inputs
 unfolding called_for
 limit_called {asked} {given} shown inputs told not rec =
-    let same : rec.reads ≡ all_said 0 asked.options inputs = reads_said 0 asked.options asked.sources given.sources rec.reads inputs told not.sources rec.read in
-    sym (for_setups asked.options asked.limits rec.reads rec.setups rec.taken ∙ by_order rec.setups rec.reads (Some shown) rec.follow) ∙ ap (λ (rs : List Said). answer_for_all asked.options asked.limits rs) same
+    let was = rec.inputs in
+    let same : was.reads ≡ all_said 0 asked.options inputs = reads_said 0 asked.options asked.sources given.sources was.reads inputs told not.sources was.read in
+    sym (for_setups asked.options asked.limits was.reads was.setups was.taken ∙ by_order was.setups was.reads (Some shown) rec.follow) ∙ ap (λ (rs : List Said). answer_for_all asked.options asked.limits rs) same
 
 -- an input whose header is taken says its setup
 opens_setup : (track : ℕ) (options : Options) (o : Option (List ℕ)) (bytes : List ℕ) (setup : TrackSetup) → o ≡ Some bytes → Opens track options o setup → (said_in track options bytes).setup ≡ Some setup

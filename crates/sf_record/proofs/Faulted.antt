@@ -228,12 +228,7 @@ fault_recorded {setups} {pumps} {begun} {after} {limits} {report} options before
     let given : Gave = gave (map (λ p. p.coded.source) pumps) after report in
     let follow : FollowToFault asked given f.series.files.setups lists = follow_early f.series f.state f.own.1 f.some f.kept begin (turn_line f.state f.turn) f.ends in
     record {
-      setups = setups;
-      reads = r.reads;
-      read = r.read;
-      taken = r.taken;
-      series = f.series;
-      own = f.own;
+      inputs = record { setups = setups; reads = r.reads; read = r.read; taken = r.taken; series = f.series; own = f.own };
       back = λ files told. back_early begun after files f.series f.state lists report f.kept (fits_own f.series f.own fits) f.proper begin told f.ends;
       under = under;
       follow = subst (λ (ss : List TrackSetup). FollowToFault asked given ss lists) f.own.0 follow;

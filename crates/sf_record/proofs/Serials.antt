@@ -278,12 +278,7 @@ limit_recorded {setups} {pumps} {begun} {after} {limits} {report} options before
     let r : AreFirst 0 options before setups d.state pumps = all_first 0 options before setups d.state firsts pumps all over (taken_handed d.deals d.own.0) in
     let long : length d.state.handed ≡ length setups = d.deals.proper.tracks ∙ ap (λ (ss : List TrackSetup). length ss) d.own.0 in
     record {
-      setups = setups;
-      reads = r.reads;
-      read = r.read;
-      taken = r.taken;
-      series = d.series;
-      own = d.own;
+      inputs = record { setups = setups; reads = r.reads; read = r.read; taken = r.taken; series = d.series; own = d.own };
       back = λ files told. stopped_back begun after files d.series d.state (lists_of 0 options setups r.reads) shown report d.deals.kept (fits_own d.series d.own fits) d.deals.proper (first_lists r long) told f.stopped;
       follow = follow_limit shown f r under long;
     }

@@ -177,17 +177,21 @@ pub record RecordsAll (asked : Asked) (given : Gave) (setups : List TrackSetup) 
   pub follow : FollowOrder asked given setups (lists_of 0 asked.options setups reads) None
   pub told : given.report.tracks ≡ map (λ r. length r.samples) reads
 
--- A chunk of what was read meets this limit, and those before it in its track stand in the files.
-pub record RecordsToLimit (asked : Asked) (given : Gave) (shown : LimitShown) : Type 0 where
+-- What was read of each input, whose headers are taken, and the series of files that it went into, which has their setups and the limits that were asked for.
+pub record ReadInto (asked : Asked) (given : Gave) : Type 0 where
   pub setups : List TrackSetup
   pub reads : List Said
   pub read : AllRead 0 asked.options asked.sources given.sources reads
   pub taken : map (λ r. r.setup) reads ≡ map Some setups
   pub series : OpenSeries
   pub own : (series.files.setups ≡ setups) × (series.files.limits ≡ asked.limits)
+
+-- A chunk of what was read meets this limit, and those before it in its track stand in the files.
+pub record RecordsToLimit (asked : Asked) (given : Gave) (shown : LimitShown) : Type 0 where
+  pub inputs : ReadInto asked given
   pub back : (before : List (List ℕ)) → asked.shelf.files ≡ Some before
-      → ReadToLimit asked.shelf before series (lists_of 0 asked.options setups reads) shown given.report given.shelf
-  pub follow : FollowOrder asked given setups (lists_of 0 asked.options setups reads) (Some shown)
+      → ReadToLimit asked.shelf before inputs.series (lists_of 0 asked.options inputs.setups inputs.reads) shown given.report given.shelf
+  pub follow : FollowOrder asked given inputs.setups (lists_of 0 asked.options inputs.setups inputs.reads) (Some shown)
 
 -- Not even an empty file of these setups is within the limit of bytes, and none was made.
 pub record FitsNothing (asked : Asked) (given : Gave) (shown : LimitShown) : Type 0 where
@@ -211,16 +215,11 @@ pub record BeginsNone (asked : Asked) (given : Gave) : Type 0 where
 
 -- Files were begun, as an empty one is within the limit of bytes, and then a write failed, or memory ran out. Those that were closed hold the first samples of each input, and no others.
 pub record RecordsToFault (asked : Asked) (given : Gave) : Type 0 where
-  pub setups : List TrackSetup
-  pub reads : List Said
-  pub read : AllRead 0 asked.options asked.sources given.sources reads
-  pub taken : map (λ r. r.setup) reads ≡ map Some setups
-  pub series : OpenSeries
-  pub own : (series.files.setups ≡ setups) × (series.files.limits ≡ asked.limits)
+  pub inputs : ReadInto asked given
   pub back : (before : List (List ℕ)) → asked.shelf.files ≡ Some before
-      → ReadToFault asked.shelf before series (lists_of 0 asked.options setups reads) given.report given.shelf
-  pub under : passes asked.limits.max_bytes (closed_length setups []) ≡ false
-  pub follow : FollowToFault asked given setups (lists_of 0 asked.options setups reads)
+      → ReadToFault asked.shelf before inputs.series (lists_of 0 asked.options inputs.setups inputs.reads) given.report given.shelf
+  pub under : passes asked.limits.max_bytes (closed_length inputs.setups []) ≡ false
+  pub follow : FollowToFault asked given inputs.setups (lists_of 0 asked.options inputs.setups inputs.reads)
 
 -- all inputs were recorded, and this is the answer for the lowest of their faults
 abbrev pub Recorded : Asked → Gave → SerialOutcome → Type 0
