@@ -23,10 +23,10 @@ use Rattle.sf_series.specs.declared.series.Wrote.TheVariants.{Idle, OneChunk}
 use Rattle.sf_series.specs.Switching.{Put, Into, Next, Limit, put}
 use Rattle.sf_series.specs.inner.Writing.{SameSetups}
 use Rattle.sf_series.proofs.SeriesLaws.{hand_kept, hand_proper, list_other, mark_other, read_other, read_set, some_inside, write_kept, write_proper}
-use Rattle.sf_record.specs.Pumping.{Pumping}
+use Rattle.sf_record.specs.Pump.{Pumping}
 use Rattle.sf_record.proofs.Counted.{failed_turn}
 use Rattle.sf_record.specs.inner.InTurn.{InTurn}
-use Rattle.sf_record.specs.inner.Dealing.{AllOver, AllWait, Deals, DealtTo, Fed, Feeds, HandedOne, Hands, PumpOver, PumpsOver, TrackBegins, TrackStands, Waits}
+use Rattle.sf_record.specs.inner.Deal.{AllOver, AllWait, Deals, DealtTo, Fed, Feeds, HandedOne, Hands, PumpOver, PumpsOver, TrackBegins, TrackStands, Waits}
 
 -- a track of those that are dealt can be fed
 pub feeds_of : {begun shelf : ShelfView} {state : State} {pumps : List Pumping} {series : OpenSeries} (k : ℕ) (pump : Pumping) → Deals begun state pumps series shelf → slice_get pumps k ≡ Some pump

@@ -8,7 +8,7 @@ use Rattle.sf_gather.specs.Chunks.{chunks, closed, marked}
 use Rattle.sf_gather.specs.Gathered.{Gathered, Stands as GatherStands}
 use Rattle.sf_gather.specs.Proper.{Proper}
 use Rattle.sf_record.specs.declared.faults.TrackFault.{TrackFault}
-use Rattle.sf_record.specs.Pumping.{Gathers, NotEndedEarly, Pumping, Stands, Works, given_chunks}
+use Rattle.sf_record.specs.Pump.{Gathers, NotEndedEarly, Pumping, Stands, Works, given_chunks}
 use Rattle.sf_record.specs.Input.{OfInput, IsFront}
 use Rattle.sf_record.specs.Reading.{EndsBy}
 use Rattle.sf_record.proofs.Inputs.{reads_front}

@@ -23,12 +23,12 @@ use Rattle.sf_series.specs.Shelved.{AllKept, BrokenOn, closed_in}
 use Rattle.sf_series.specs.Switching.{closed_length, passes, switched}
 use Rattle.sf_series.proofs.SeriesLaws.{broken_back, closed_long, closed_more, closed_open, failed_there, finished_back, stopped_back}
 use Rattle.sf_series.proofs.WrittenOut.{written_handed, written_kept}
-use Rattle.sf_record.specs.Pumping.{Pumping}
+use Rattle.sf_record.specs.Pump.{Pumping}
 use Rattle.sf_record.specs.Said.{Said}
 use Rattle.sf_record.specs.Serial.{Asked, FollowToFault, Gave, RecordsToFault, asked_for, gave, lists_of}
-use Rattle.sf_record.specs.inner.Dealing.{HandsFirst, PumpsOver, TrackBegins}
+use Rattle.sf_record.specs.inner.Deal.{HandsFirst, PumpsOver, TrackBegins}
 use Rattle.sf_record.specs.inner.Finishing.{EndsEarly, FinishedAtFault}
-use Rattle.sf_record.specs.inner.Opening.{AllOpened}
+use Rattle.sf_record.specs.inner.Headers.{AllOpened}
 use Rattle.sf_record.proofs.Finishing.{some_written}
 use Rattle.sf_record.proofs.InTurn.{InLine, line_written, turn_line}
 use Rattle.sf_record.proofs.Readings.{AreBegun, FirstHanded, all_begun, first_at}

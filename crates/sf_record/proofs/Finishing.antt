@@ -28,9 +28,9 @@ use Rattle.sf_record.specs.declared.faults.InputFault.TheVariants.{Coded, Setup 
 use Rattle.sf_record.specs.declared.faults.TrackFault.{TrackFault}
 use Rattle.sf_record.specs.declared.serial_end.SerialOutcome.{SerialOutcome}
 use Rattle.sf_record.specs.declared.serial_end.SerialOutcome.TheVariants.{Done, WriteFault, Limit, Refused, ReadFault, NoMemory}
-use Rattle.sf_record.specs.Pumping.{Pumping}
+use Rattle.sf_record.specs.Pump.{Pumping}
 use Rattle.sf_record.specs.Serial.{KeepsMade, answer_by, lowest_fault}
-use Rattle.sf_record.specs.inner.Dealing.{AllOver, Deals, DealtTo, LeftBy}
+use Rattle.sf_record.specs.inner.Deal.{AllOver, Deals, DealtTo, LeftBy}
 use Rattle.sf_record.specs.inner.Finishing.{AsPumps, EndsEarly, FinishedAtFault, FinishedAtLimit, WriteEnds, outcome_by}
 use Rattle.sf_record.specs.inner.InTurn.{AllReady, InTurn}
 use Rattle.sf_record.proofs.Counted.{rose_behind, rose_later}

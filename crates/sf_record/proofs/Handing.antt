@@ -24,10 +24,10 @@ use Rattle.sf_series.specs.Fitting.{CanHand, tail_in}
 use Rattle.sf_series.specs.Series.{OpenFiles, OpenSeries, Stands as SeriesStands}
 use Rattle.sf_series.proofs.SeriesLaws.{hand_taken, list_long}
 use Rattle.sf_record.specs.Serial.{filled}
-use Rattle.sf_record.specs.Pumping.{Pumping, Stands, StepsTo, Works, given_chunks, left, turns_left}
+use Rattle.sf_record.specs.Pump.{Pumping, Stands, StepsTo, Works, given_chunks, left, turns_left}
 use Rattle.sf_record.specs.declared.pump.Stepped.{Stepped}
 use Rattle.sf_record.specs.declared.pump.Stepped.TheVariants.{Done, HasChunk, Moved, NoMemory}
-use Rattle.sf_record.specs.inner.Dealing.{Fed, Feeds, GoesOn, Hands, IsOver, NextIs, Took, TrackBegins, Waits}
+use Rattle.sf_record.specs.inner.Deal.{Fed, Feeds, GoesOn, Hands, IsOver, NextIs, Took, TrackBegins, Waits}
 
 -- ---- a pump of which a chunk is taken
 

@@ -16,11 +16,11 @@ use Rattle.sf_gather.specs.Chunks.{closed}
 use Rattle.sf_gather.specs.Gathered.{Gathered, Stands}
 use Rattle.sf_gather.specs.Proper.{Proper}
 use Rattle.sf_record.specs.declared.faults.TrackFault.{TrackFault}
-use Rattle.sf_record.specs.declared.turns.Advance.{Advance}
-use Rattle.sf_record.specs.declared.turns.Advance.TheVariants.{Accepted, Ended, NoMemory}
+use Rattle.sf_record.specs.declared.advance.Advance.{Advance}
+use Rattle.sf_record.specs.declared.advance.Advance.TheVariants.{Accepted, Ended, NoMemory}
 use Rattle.sf_record.specs.Input.{fault_at, sample_fault, IsOfBytes, taken, ended, with_front, unless, Taken, OfInput, IsFront}
 use Rattle.sf_record.specs.Reading.{EndsBy, Reads}
-use Rattle.sf_record.specs.inner.Going.{AdvancesTo, PutIn}
+use Rattle.sf_record.specs.inner.Advance.{AdvancesTo, PutIn}
 
 -- the last of a list with one more sample
 last_more : (before : Option LastSample) (samples : List Stored) (next : Stored) → last_from before (samples ++ next ∷ []) ≡ Some (kept_of next)

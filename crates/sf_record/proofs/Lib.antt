@@ -1,3 +1,4 @@
+-- What the answers of the goals cite.
 pub mod Inputs
 pub mod Endings
 pub mod Counted

@@ -12,15 +12,15 @@ use Rattle.sf_tick.specs.declared.types.Setup.{Setup}
 use Rattle.sf_world.specs.Counts.{Rose}
 use Rattle.sf_gather.specs.declared.given.Options.{Options}
 use Rattle.sf_record.specs.Input.{IsOfBytes, coded_fault, read_fault, setup_fault}
-use Rattle.sf_record.specs.Pumping.{Pumping}
+use Rattle.sf_record.specs.Pump.{Pumping}
 use Rattle.sf_record.specs.Said.{without_setup}
 use Rattle.sf_record.specs.Serial.{HasFault, Opens, SaysIn}
 use Rattle.sf_record.specs.declared.faults.TrackFault.{TrackFault}
-use Rattle.sf_record.specs.declared.opening.Untaken.{Untaken}
-use Rattle.sf_record.specs.declared.opening.Untaken.TheVariants.{Fault, NoMemory as MemoryWanted}
+use Rattle.sf_record.specs.declared.headers.Untaken.{Untaken}
+use Rattle.sf_record.specs.declared.headers.Untaken.TheVariants.{Fault, NoMemory as MemoryWanted}
 use Rattle.sf_record.proofs.Counted.{rose_behind}
 use Rattle.sf_record.proofs.Headers.{header_not, setup_not}
-use Rattle.sf_record.specs.inner.Opening.{AllOpened, HeadersRead, IsOpened, IsUntaken, StopsAt}
+use Rattle.sf_record.specs.inner.Headers.{AllOpened, HeadersRead, IsOpened, IsUntaken, StopsAt}
 
 -- as many setups and pumps as inputs
 pub opened_long : (track : ℕ) (options : Options) (before : List SourceView) (setups : List TrackSetup) (pumps : List Pumping) → AllOpened track options before setups pumps

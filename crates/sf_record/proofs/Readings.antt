@@ -20,12 +20,12 @@ use Rattle.sf_interleave.specs.Waiting.{list_of}
 use Rattle.sf_series.specs.Core.{State}
 use Rattle.sf_record.specs.declared.faults.TrackFault.{TrackFault}
 use Rattle.sf_record.specs.Input.{IsFront, IsOfBytes, OfInput, Taken, ended, given_of, input_of, read_fault, with_front}
-use Rattle.sf_record.specs.Pumping.{Ended, Gathers, Pumping, Works, given_chunks}
+use Rattle.sf_record.specs.Pump.{Ended, Gathers, Pumping, Works, given_chunks}
 use Rattle.sf_record.specs.Reading.{EndsBy}
 use Rattle.sf_record.specs.Said.{Said, behind_header, said_in}
 use Rattle.sf_record.specs.Serial.{AllRead, FirstOf, Opens, SaysIn, WasRead, filled, lists_of}
-use Rattle.sf_record.specs.inner.Dealing.{Hands, HandsFirst, IsOver, PumpOver, PumpsOver}
-use Rattle.sf_record.specs.inner.Opening.{AllOpened, IsOpened}
+use Rattle.sf_record.specs.inner.Deal.{Hands, HandsFirst, IsOver, PumpOver, PumpsOver}
+use Rattle.sf_record.specs.inner.Headers.{AllOpened, IsOpened}
 use Rattle.sf_record.proofs.Counted.{rose_behind}
 use Rattle.sf_record.proofs.Handing.{bool_tells, unmarked_from}
 use Rattle.sf_record.proofs.Inputs.{reads_front}

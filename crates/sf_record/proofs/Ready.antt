@@ -17,8 +17,8 @@ use Rattle.sf_series.specs.declared.limits.LimitShown.{LimitShown}
 use Rattle.sf_series.specs.Core.{State, put_in, write, write_picked}
 use Rattle.sf_series.specs.Series.{MeetsLimit, OpenSeries}
 use Rattle.sf_series.specs.Switching.{Put}
-use Rattle.sf_record.specs.Pumping.{Ended, Pumping, Works, given_chunks}
-use Rattle.sf_record.specs.inner.Dealing.{AllWait, Deals, HandedOne, Hands, IsOver}
+use Rattle.sf_record.specs.Pump.{Ended, Pumping, Works, given_chunks}
+use Rattle.sf_record.specs.inner.Deal.{AllWait, Deals, HandedOne, Hands, IsOver}
 use Rattle.sf_record.specs.inner.InTurn.{AllReady, InTurn}
 use Rattle.sf_record.proofs.Handing.{bool_tells, some_from}
 use Rattle.sf_record.proofs.InTurn.{hand_turn}

@@ -36,12 +36,12 @@ use Rattle.sf_series.proofs.WrittenOut.{written_ended}
 use Rattle.sf_record.specs.declared.faults.TrackFault.{TrackFault}
 use Rattle.sf_record.specs.declared.serial_end.SerialOutcome.{SerialOutcome}
 use Rattle.sf_record.specs.declared.serial_end.SerialOutcome.TheVariants.{Done, WriteFault, Limit, Refused, ReadFault, NoMemory}
-use Rattle.sf_record.specs.Pumping.{Pumping}
+use Rattle.sf_record.specs.Pump.{Pumping}
 use Rattle.sf_record.specs.Said.{Said}
 use Rattle.sf_record.specs.Serial.{ComeBack, FitsNothing, FollowOrder, Opens, Recorded, RecordsToLimit, SerialEnds, TellsNone, asked_for, gave, lists_of, lowest_fault}
-use Rattle.sf_record.specs.inner.Dealing.{Deals, Hands, PumpsOver, TrackStands}
+use Rattle.sf_record.specs.inner.Deal.{Deals, Hands, PumpsOver, TrackStands}
 use Rattle.sf_record.specs.inner.Finishing.{AsPumps, FinishedAll, FinishedAtLimit, WriteEnds, unbegun}
-use Rattle.sf_record.specs.inner.Opening.{AllOpened, IsOpened}
+use Rattle.sf_record.specs.inner.Headers.{AllOpened, IsOpened}
 use Rattle.sf_record.specs.inner.InTurn.{MayCome}
 use Rattle.sf_record.proofs.Counted.{rose_behind}
 use Rattle.sf_record.proofs.Faulted.{fault_recorded, fits_own, lists_begin, lists_long, some_same}

@@ -5,7 +5,7 @@ use Rattle.sf_tick.specs.declared.types.Chunk.{Chunk}
 use Rattle.sf_tick.specs.declared.types.Stored.{Stored}
 use Rattle.sf_gather.specs.Chunks.{chunks, closed}
 use Rattle.sf_gather.specs.Gathered.{Gathered}
-use Rattle.sf_record.specs.Pumping.{Pumping, Stands, Works, given_chunks}
+use Rattle.sf_record.specs.Pump.{Pumping, Stands, Works, given_chunks}
 
 -- until the last chunk is made, the chunks that a pump gave are the first ones, whatever samples follow
 gave_stays : (contents : Option (List ℕ)) (accepted : List Stored) (gave : List Chunk) (pump : Pumping) (gatherer : Option Gathered)

@@ -11,15 +11,15 @@ use Rattle.sf_series.specs.declared.report.Report.{Report}
 use Rattle.sf_record.specs.declared.faults.InputFault.{InputFault}
 use Rattle.sf_record.specs.declared.faults.InputFault.TheVariants.{Coded, Setup as SetupRefused, Sample as SampleRefused}
 use Rattle.sf_record.specs.declared.faults.TrackFault.{TrackFault}
-use Rattle.sf_record.specs.declared.opening.Untaken.{Untaken}
-use Rattle.sf_record.specs.declared.opening.Untaken.TheVariants.{Fault, NoMemory}
+use Rattle.sf_record.specs.declared.headers.Untaken.{Untaken}
+use Rattle.sf_record.specs.declared.headers.Untaken.TheVariants.{Fault, NoMemory}
 use Rattle.sf_record.specs.declared.serial_end.SerialOutcome.TheVariants.{Refused}
 use Rattle.sf_record.specs.Input.{IsOfBytes, read_fault}
-use Rattle.sf_record.specs.Pumping.{Pumping}
+use Rattle.sf_record.specs.Pump.{Pumping}
 use Rattle.sf_record.specs.Said.{Said, said_in}
 use Rattle.sf_record.specs.Serial.{Asked, ComeBack, EndsAtHeader, Gave, HasFault, Opens, SerialEnds, TellsNone, answer_by, asked_for, gave}
 use Rattle.sf_record.specs.inner.Finishing.{untaken_as}
-use Rattle.sf_record.specs.inner.Opening.{AllOpened, IsUntaken, StopsAt}
+use Rattle.sf_record.specs.inner.Headers.{AllOpened, IsUntaken, StopsAt}
 use Rattle.sf_record.proofs.Opened.{opened_long}
 
 -- the fault of a header is a failed read, or lies in the input's bytes

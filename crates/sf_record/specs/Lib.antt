@@ -1,7 +1,8 @@
+-- What a reader believes of recording, from an input up to the files of several.
 pub mod inner
 pub mod Input
 pub mod Said
 pub mod Reading
-pub mod Pumping
+pub mod Pump
 pub mod Serial
 pub mod Called

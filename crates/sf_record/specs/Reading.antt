@@ -9,8 +9,8 @@ use Rattle.sf_coded.specs.Progress.{Stands as FileStands}
 use Rattle.sf_gather.specs.declared.given.Given.{Given}
 use Rattle.sf_gather.specs.Accepting.{last_of}
 use Rattle.sf_record.specs.declared.faults.TrackFault.{TrackFault}
-use Rattle.sf_record.specs.declared.turns.Turn.{Turn}
-use Rattle.sf_record.specs.declared.turns.Turn.TheVariants.{Next, End, NoMemory}
+use Rattle.sf_record.specs.declared.advance.Turn.{Turn}
+use Rattle.sf_record.specs.declared.advance.Turn.TheVariants.{Next, End, NoMemory}
 use Rattle.sf_record.specs.Input.{taken, ended, with_front, read_fault, OfInput, IsFront, IsOfBytes}
 
 -- An input is read behind the accepted samples, or one more sample that is held back: these are what is taken of the samples so far, and what follows is taken behind them.

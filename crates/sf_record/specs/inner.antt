@@ -1,6 +1,6 @@
 -- What only ties the recording to what is said of it.
-pub mod Going
-pub mod Dealing
-pub mod Opening
+pub mod Advance
+pub mod Deal
+pub mod Headers
 pub mod Finishing
 pub mod InTurn

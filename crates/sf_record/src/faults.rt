@@ -1,3 +1,5 @@
+//! Why an input is refused, and at which place.
+
 ghost use Rattle.std.specs.Prelude.{◌≡◌};
 ghost use Rattle.sf_record.specs.Input.{coded_fault, sample_fault, setup_fault};
 

@@ -6,13 +6,13 @@
 //! a pump of each; their chunks are handed to a series of files on a shelf, the earliest first, up to a limit.
 #![tactic(auto)]
 
-mod dealing;
+mod advance;
+mod deal;
 mod faults;
-mod opening;
+mod headers;
 mod pump;
 mod serial;
 mod serial_end;
-mod turns;
 
 pub use faults::{InputFault, TrackFault};
 pub use pump::{Pump, Stepped};

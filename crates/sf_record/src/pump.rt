@@ -1,3 +1,5 @@
+//! The pump of one track: its input is read sample by sample, and handed out as chunks.
+
 ghost use Rattle.std.specs.Prelude.{◌≡◌, ◌↔◌, ◌*◌, ◌≤◌, ◌<◌, ◌++◌, List, [], Option, None, Some, false, IfSome, IsSome, ◌⊎◌};
 ghost use Rattle.std.specs.Option.{option_to_list, option_copied};
 ghost use Rattle.sf_tick.specs.declared.types.Chunk.{Chunk};
@@ -9,10 +11,10 @@ ghost use Rattle.sf_gather.specs.Proper.{Proper};
 ghost use Rattle.sf_world.specs.Counts.{Rose};
 ghost use Rattle.sf_world.specs.Views.{Unchanged};
 ghost use Rattle.sf_record.specs.Input.{given_of, read_fault};
-ghost use Rattle.sf_record.specs.Pumping.{NotEndedEarly, Stands, StepsTo, left, rest_of, turns_left};
+ghost use Rattle.sf_record.specs.Pump.{NotEndedEarly, Stands, StepsTo, left, rest_of, turns_left};
 
 use crate::faults::TrackFault;
-use crate::turns::{Advance, go_on};
+use crate::advance::{Advance, go_on};
 use sf_coded::{Coded, CodedSample};
 use sf_entry::TrackSetup;
 use sf_gather::{Gather, Given, Options, closed_chunks_stay};
@@ -48,7 +50,7 @@ pub struct Pump<S: Source> {
 }
 
 impl<S: Source> Model for Pump<S> {
-    ghost use Rattle.sf_record.specs.Pumping.{Pumping, Sound};
+    ghost use Rattle.sf_record.specs.Pump.{Pumping, Sound};
 
     ghost Value = { Pumping };
 

@@ -8,13 +8,13 @@ ghost use Rattle.sf_series.specs.Series.{AreLimits};
 ghost use Rattle.sf_record.specs.Called.{NothingFailed, TellBytes, called_for};
 ghost use Rattle.sf_record.specs.Said.{said_in};
 ghost use Rattle.sf_record.specs.Serial.{AreOptions, ComeBack, KeepsMade, SerialEnds, asked_for, gave};
-ghost use Rattle.sf_record.specs.inner.Dealing.{Deals, PumpsOver};
+ghost use Rattle.sf_record.specs.inner.Deal.{Deals, PumpsOver};
 ghost use Rattle.sf_record.specs.inner.Finishing.{WriteEnds, outcome_by, unbegun, untaken_as};
 ghost use Rattle.sf_record.specs.inner.InTurn.{InTurn};
-ghost use Rattle.sf_record.specs.inner.Opening.{AllOpened};
+ghost use Rattle.sf_record.specs.inner.Headers.{AllOpened};
 
-use crate::dealing::{deal, lowest_fault};
-use crate::opening::{Opening, Untaken};
+use crate::deal::{deal, lowest_fault};
+use crate::headers::{Opening, Untaken};
 use crate::pump::Pump;
 use crate::serial_end::{SerialEnd, SerialOutcome, answer_at};
 use sf_entry::TrackSetup;
@@ -128,8 +128,8 @@ fn write_series<S: Source, O: Shelf>(
     requires goes_on { series.fault ≡ None }
     requires deals { (begun : ShelfView) × (state : State) × Deals begun state pumps.old.items series (O.seen shelf.old) }
     ensures ends { (begun : ShelfView) (state : State) → Deals begun state pumps.old.items series (O.seen shelf.old) → InTurn state
-        → WriteEnds begun (O.seen shelf.old) series.files.limits series.files.setups pumps.new.items result.0 (O.seen shelf.new) result.1 }
-    ensures kept { (begun : ShelfView) (state : State) → Deals begun state pumps.old.items series (O.seen shelf.old) → InTurn state → KeepsMade series.files.limits.stem begun (O.seen shelf.new) }
+        → WriteEnds begun (O.seen shelf.old) series.files.limits series.files.setups pumps.new.items result.0 (O.seen shelf.new) result.1
+        × KeepsMade series.files.limits.stem begun (O.seen shelf.new) }
     ensures over { PumpsOver pumps.old.items pumps.new.items }
     ensures later { (O.seen shelf.old).faults ≤ (O.seen shelf.new).faults }
 {

@@ -1,5 +1,7 @@
+//! Pumps, step by step; in their modules whole pumps, and inputs that are recorded.
+
 ghost use Rattle.std.specs.Prelude.{◌≡◌, [], Some, IfSome, IsSome};
-ghost use Rattle.sf_record.specs.Pumping.{Stands};
+ghost use Rattle.sf_record.specs.Pump.{Stands};
 
 use super::*;
 use sf_coded::{Coded, CodedFault};

@@ -16,11 +16,11 @@ use Rattle.sf_series.specs.Kept.{Kept}
 use Rattle.sf_series.specs.Series.{OpenSeries}
 use Rattle.sf_record.specs.declared.serial_end.SerialOutcome.{SerialOutcome}
 use Rattle.sf_record.specs.declared.serial_end.SerialOutcome.TheVariants.{Done, WriteFault, Limit, Refused, ReadFault, NoMemory}
-use Rattle.sf_record.specs.declared.opening.Untaken.{Untaken}
-use Rattle.sf_record.specs.declared.opening.Untaken.TheVariants as opening
-use Rattle.sf_record.specs.Pumping.{Pumping}
+use Rattle.sf_record.specs.declared.headers.Untaken.{Untaken}
+use Rattle.sf_record.specs.declared.headers.Untaken.TheVariants as opening
+use Rattle.sf_record.specs.Pump.{Pumping}
 use Rattle.sf_record.specs.Serial.{answer_at, lowest_fault}
-use Rattle.sf_record.specs.inner.Dealing.{AllOver, Deals, TrackBegins}
+use Rattle.sf_record.specs.inner.Deal.{AllOver, Deals, TrackBegins}
 use Rattle.sf_record.specs.inner.InTurn.{AllReady, InTurn}
 
 -- The chunks of pumps were dealt into a series of these tracks, within these limits.

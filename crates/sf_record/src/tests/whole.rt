@@ -1,8 +1,10 @@
+//! All chunks of an input, proved to be those of its accepted samples.
+
 ghost use Rattle.std.specs.Prelude.{◌≡◌, [], List, IfOk};
 ghost use Rattle.sf_tick.specs.declared.types.Stored.{Stored};
 ghost use Rattle.sf_gather.specs.Chunks.{chunks};
 ghost use Rattle.sf_record.specs.Reading.{EndsBy};
-ghost use Rattle.sf_record.specs.Pumping.{NotEndedEarly, Stands};
+ghost use Rattle.sf_record.specs.Pump.{NotEndedEarly, Stands};
 
 use super::{input, options, pump_of};
 use crate::{Pump, Stepped};

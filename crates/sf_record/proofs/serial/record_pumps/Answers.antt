@@ -35,7 +35,7 @@ returns-in-Ok-clause-ends g c options before all =
     let s = c.in-Ok.ensures in
     let w = c.write_series-report.ensures in
     let setups = c.args.setups.items in
-    let ends = w.ends begun _ (fresh_deals options before c.args.pumps.items all s.stands s.setups) (fresh_turn (length setups)) in
+    let ends = (w.ends begun _ (fresh_deals options before c.args.pumps.items all s.stands s.setups) (fresh_turn (length setups))).0 in
     let own : WriteEnds begun (g.O.Shelf.seen c.start.new.shelf) c.args.limits setups c.write_series-report.new.pumps.items c.write_series-report.result.0 after c.write_series-report.result.1 =
     subst (λ (ss : List TrackSetup). WriteEnds begun (g.O.Shelf.seen c.start.new.shelf) c.args.limits ss c.write_series-report.new.pumps.items c.write_series-report.result.0 after c.write_series-report.result.1) s.setups
     (subst (λ (l : Limits). WriteEnds begun (g.O.Shelf.seen c.start.new.shelf) l c.in-Ok.series.files.setups c.write_series-report.new.pumps.items c.write_series-report.result.0 after c.write_series-report.result.1) s.limits ends) in
@@ -54,7 +54,7 @@ pub returns-in-Ok-clause-kept : goal.returns-in-Ok-clause-kept
 returns-in-Ok-clause-kept g c =
     let s = c.in-Ok.ensures in
     subst (λ (l : Limits). KeepsMade l.stem (g.O.Shelf.seen c.args.shelf.now) (g.O.Shelf.seen c.write_series-report.new.shelf)) s.limits
-    (c.write_series-report.ensures.kept _ _ (fresh_deals c.requires.opened.0 c.requires.opened.1 c.args.pumps.items c.requires.opened.2 s.stands s.setups) (fresh_turn (length c.args.setups.items)))
+    (c.write_series-report.ensures.ends _ _ (fresh_deals c.requires.opened.0 c.requires.opened.1 c.args.pumps.items c.requires.opened.2 s.stands s.setups) (fresh_turn (length c.args.setups.items))).1
 
 pub returns-in-Err-clause-ends : goal.returns-in-Err-clause-ends
 returns-in-Err-clause-ends g c options before all =

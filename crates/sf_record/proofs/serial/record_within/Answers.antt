@@ -2,11 +2,11 @@ use Rattle.std.proofs.Common.{◌≡◌, ℕ, ◌+◌, ◌++◌, List, Option, N
 use Rattle.std.specs.Prelude.{replicate}
 use Rattle.std.proofs.lemmas.List.{length-map, map-append}
 use Rattle.sf_world.specs.Views.{SourceView}
-use Rattle.sf_record.specs.declared.opening.Untaken.{Untaken}
+use Rattle.sf_record.specs.declared.headers.Untaken.{Untaken}
 use Rattle.sf_record.specs.Serial.{ComeBack, SerialEnds, asked_for, gave}
 use Rattle.sf_record.specs.Said.{said_in}
 use Rattle.sf_record.specs.inner.Finishing.{untaken_as}
-use Rattle.sf_record.specs.inner.Opening.{HeadersRead, StopsAt}
+use Rattle.sf_record.specs.inner.Headers.{HeadersRead, StopsAt}
 use Rattle.sf_record.proofs.Finishing.{none_made}
 use Rattle.sf_record.proofs.Opened.{none_read, opened_long}
 use Rattle.sf_record.proofs.Stopped.{none_refused, stopped_long, stopped_sources, untaken_ends}

@@ -1,6 +1,6 @@
 use Rattle.std.proofs.Common.{ℕ, ◌≡◌, List, Option, refl, sym, ap, subst}
 use Rattle.sf_coded.specs.Progress.{Progress}
-use Rattle.sf_record.specs.Pumping.{Stands}
+use Rattle.sf_record.specs.Pump.{Stands}
 use Rattle.sf_record.proofs.Endings.{early_stands}
 use Rattle.sf_record.proofs.pump.Pump.end_early.Goals as goal
 

@@ -5,7 +5,7 @@ use Rattle.sf_tick.specs.declared.types.Chunk.{Chunk}
 use Rattle.sf_tick.specs.declared.types.Stored.{Stored}
 use Rattle.sf_gather.specs.Chunks.{chunks}
 use Rattle.sf_gather.specs.Gathered.{Gathered}
-use Rattle.sf_record.specs.Pumping.{Ended, NotEndedEarly, Pumping, Stands, StepsTo, Works, given_chunks}
+use Rattle.sf_record.specs.Pump.{Ended, NotEndedEarly, Pumping, Stands, StepsTo, Works, given_chunks}
 use Rattle.sf_record.specs.Reading.{EndsBy}
 use Rattle.sf_record.specs.declared.pump.Stepped.TheVariants.{HasChunk}
 use Rattle.sf_record.proofs.tests.whole.all_chunks.Goals as goal

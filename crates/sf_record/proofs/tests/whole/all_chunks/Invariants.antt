@@ -1,6 +1,6 @@
 use Rattle.std.proofs.Common.{◌≡◌, List}
 use Rattle.sf_tick.specs.declared.types.Stored.{Stored}
-use Rattle.sf_record.specs.Pumping.{NotEndedEarly, Stands, turns_left}
+use Rattle.sf_record.specs.Pump.{NotEndedEarly, Stands, turns_left}
 use Rattle.sf_record.proofs.tests.whole.all_chunks.Given as goal
 
 abbrev pub invariant-loop-pump : goal.invariant-loop-pump
