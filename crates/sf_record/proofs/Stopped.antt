@@ -19,7 +19,7 @@ use Rattle.sf_record.specs.Pump.{Pumping}
 use Rattle.sf_record.specs.Said.{Said, said_in}
 use Rattle.sf_record.specs.Serial.{Asked, ComeBack, EndsAtHeader, Gave, HasFault, Opens, SerialEnds, TellsNone, answer_by, asked_for, gave}
 use Rattle.sf_record.specs.inner.Finishing.{untaken_as}
-use Rattle.sf_record.specs.inner.Headers.{AllOpened, IsUntaken, StopsAt}
+use Rattle.sf_record.specs.inner.Headers.{AllOpened, HeadersRead, IsUntaken, StopsAt}
 use Rattle.sf_record.proofs.Opened.{opened_long}
 
 -- the fault of a header is a failed read, or lies in the input's bytes
@@ -173,3 +173,28 @@ stopped_long {options} {before} {setups} {pumps} {rest} {untaken} s =
     let left = ap (λ (vs : List SourceView). length vs) s.left in
     let parts = ap (λ (vs : List SourceView). length vs) s.parts in
     omega (arith, long.1, left, parts, length-append s.taken (s.first ∷ s.others))
+
+-- ---- what the headers of inputs come to
+
+-- They are all taken: there is a pump of each input.
+pub record AllTaken (options : Options) (before : List SourceView) (inputs : ℕ) (setups : List TrackSetup) (pumps : List Pumping) : Type 0 where
+  pub opened : AllOpened 0 options before setups pumps
+  pub long : length pumps ≡ inputs
+
+pub all_taken : {S : Type 0} (options : Options) (seen : S → SourceView) (sources : List S) (setups : List TrackSetup) (pumps : List Pumping) (rest : List SourceView) (untaken : Option Untaken)
+    → HeadersRead options (map seen sources) setups pumps rest untaken → untaken ≡ None → AllTaken options (map seen sources) (length sources) setups pumps
+all_taken {S} options seen sources setups pumps rest untaken read is =
+    let all : HeadersRead options (map seen sources) setups pumps rest None = subst (λ (o : Option Untaken). HeadersRead options (map seen sources) setups pumps rest o) is read in
+    record { opened = all.0; long = (opened_long 0 options (map seen sources) setups pumps all.0).1 ∙ length-map sources seen }
+
+-- One isn't taken: the pumps and the inputs that are left are as many as the inputs.
+pub record OneUntaken (options : Options) (before : List SourceView) (inputs : ℕ) (setups : List TrackSetup) (pumps : List Pumping) (rest : List SourceView) (left : ℕ) (why : Untaken) : Type 0 where
+  pub stops : StopsAt options before setups pumps rest why
+  pub long : length pumps + left ≡ inputs
+
+pub one_untaken : {S : Type 0} (options : Options) (seen : S → SourceView) (sources : List S) (setups : List TrackSetup) (pumps : List Pumping) (rest : List S) (untaken : Option Untaken) (why : Untaken)
+    → HeadersRead options (map seen sources) setups pumps (map seen rest) untaken → untaken ≡ Some why → OneUntaken options (map seen sources) (length sources) setups pumps (map seen rest) (length rest) why
+one_untaken {S} options seen sources setups pumps rest untaken why read is =
+    let stops : StopsAt options (map seen sources) setups pumps (map seen rest) why = subst (λ (o : Option Untaken). HeadersRead options (map seen sources) setups pumps (map seen rest) o) is read in
+    let long = stopped_long stops in
+    record { stops = stops; long = omega (arith, long, length-map sources seen, length-map rest seen) }

@@ -1,6 +1,6 @@
 //! The headers of several inputs are read, up to the first one that isn't taken.
 
-ghost use Rattle.std.specs.Prelude.{◌≡◌, ◌≢◌, ◌+◌, ◌<◌, ◌≤◌, ◌⊎◌, ◌++◌, ◌∷◌, List, false, [], length, map, vec_capacity, vec_len, IfErr, IfOk, Ok};
+ghost use Rattle.std.specs.Prelude.{◌≡◌, ◌≢◌, ◌+◌, ◌<◌, ◌≤◌, ◌⊎◌, ◌++◌, ◌∷◌, List, false, [], length, map, vec_capacity, vec_len, IfErr, IfOk, None, Ok};
 ghost use Rattle.sf_coded.specs.Progress.{HasRead};
 ghost use Rattle.sf_entry.specs.TrackSetup.{made};
 ghost use Rattle.sf_file.specs.Holdable.{IsReadable};
@@ -171,6 +171,8 @@ impl<S: Source> Opening<S> {
         requires rest { vec_len self.old.rest + length sources.items ≤ vec_capacity self.old.rest }
         ensures read { (before : List SourceView) → HeadersRead options before self.old.setups.items self.old.pumps.items (map (λ s. S.seen s) self.old.rest.items) self.old.untaken
             → HeadersRead options (before ++ map (λ s. S.seen s) sources.items) self.new.setups.items self.new.pumps.items (map (λ s. S.seen s) self.new.rest.items) self.new.untaken }
+        ensures first { (self.old.pumps.items ≡ []) × (self.old.setups.items ≡ []) × (self.old.rest.items ≡ []) × (self.old.untaken ≡ None)
+            → HeadersRead options (map (λ s. S.seen s) sources.items) self.new.setups.items self.new.pumps.items (map (λ s. S.seen s) self.new.rest.items) self.new.untaken }
     {
         for source in sources {
             self.add(alloc, options, source);
