@@ -122,8 +122,8 @@ fn a_file_takes_no_chunk_with_which_it_has_too_many_samples(rt: HostRuntime) -> 
     assert_eq!(rt; end.outcome, SerialOutcome::Limit(limit));
     // A file without samples has 604 bytes. There is one run of deltas (8) and one of chunks (12), and 536
     // places of chunks (4 each).
-    assert!(rt; end.report.files.as_slice() == [16_753_304]);
-    assert!(rt; end.report.tracks.as_slice() == [16_750_536]);
+    assert!(rt; end.report.files.as_slice() == [16_753_304].as_slice());
+    assert!(rt; end.report.tracks.as_slice() == [16_750_536].as_slice());
     assert_eq!(rt; shelf.file(0).map(|file| file.len()), Some(16_753_304));
     assert!(rt; shelf.file(1).is_none());
     Ok(())

@@ -141,7 +141,7 @@ fn has_ticks(alloc: Global, input: &[u8], ticks: [u8; 4]) -> bool {
         return false;
     }
     match shelf.file(0) {
-        Some(file) => file.len() == 604 && file[284..288] == ticks,
+        Some(file) => file.len() == 604 && &file[284..288] == ticks.as_slice(),
         None => false,
     }
 }
