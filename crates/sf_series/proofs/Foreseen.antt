@@ -1,5 +1,5 @@
 -- What is known before a chunk is put is so of the files for which those that are kept stand.
-use Rattle.std.proofs.Common.{◌≡◌, ℕ, ◌+◌, ◌<◌, Bool, List, [], ◌∷◌, ◌++◌, length, Option, Some, None, refl, sym, subst, ap, ◌∙◌, arith}
+use Rattle.std.proofs.Common.{◌≡◌, ℕ, ◌+◌, ◌<◌, List, [], ◌∷◌, ◌++◌, length, Option, Some, sym, subst, ap, ◌∙◌, arith}
 use Rattle.std.specs.Prelude.{nat_lt, slice_get, ◌==◌}
 use Rattle.std.proofs.lemmas.List.{length-map}
 use Rattle.sf_tick.specs.declared.types.Chunk.{Chunk}
@@ -8,7 +8,6 @@ use Rattle.sf_world.specs.Views.{ShelfView}
 use Rattle.sf_layout.specs.Layout.{start_of, tracks_of}
 use Rattle.sf_file.specs.Open.{ClosesAs, OpenFile, setups_of}
 use Rattle.sf_file.specs.Open as one_file
-use Rattle.sf_file.specs.declared.out_file.Closing.{Closing}
 use Rattle.sf_series.specs.declared.rule.Prospect.{Prospect}
 use Rattle.sf_series.specs.Files.{open_file}
 use Rattle.sf_series.specs.Series.{FilesStand, OpenFiles}

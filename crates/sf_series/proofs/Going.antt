@@ -14,10 +14,10 @@ use Rattle.sf_interleave.specs.Waiting.{OfTheirTracks, earliest_front, list_of, 
 use Rattle.sf_interleave.proofs.WaitingLaws.{picked_first, their_first, their_with, their_without}
 use Rattle.sf_file.specs.Open.{HeldTrack, OpenFile, held_from, setups_of, tracks_with, track_with as one_with}
 use Rattle.sf_series.specs.Core.{is_filled, with_filled}
-use Rattle.sf_series.specs.Series.{CanTake, OpenFiles, OpenSeries}
+use Rattle.sf_series.specs.Series.{OpenFiles}
 use Rattle.sf_series.specs.inner.Tails.{tail_with}
 use Rattle.sf_series.specs.declared.faults.SeriesFault.{SeriesFault}
-use Rattle.sf_series.specs.inner.Waits.{AllWait, GoesOn, IsWaiting, SoundSeries, WaitAfter}
+use Rattle.sf_series.specs.inner.Waits.{AllWait, GoesOn, SoundSeries, WaitAfter}
 use Rattle.sf_series.specs.inner.Writing.{CanPut, IsFresh, WentInto}
 use Rattle.sf_series.proofs.Kept.{read_other, read_set}
 use Rattle.sf_series.proofs.Lists.{some_inside}

@@ -1,6 +1,6 @@
 -- What is read back of the files that a shelf gained of a series.
-use Rattle.std.proofs.Common.{drop, ◌≡◌, ◌≢◌, ℕ, suc, ◌+◌, ◌<◌, ◌≤◌, Bool, true, false, List, [], ◌∷◌, ◌++◌, length, map, Option, Some, None, refl, sym, subst, ap, ◌∙◌, inl, inr, arith, append-nil, append_assoc, length-append}
-use Rattle.std.specs.Prelude.{◌==◌, Result, Ok}
+use Rattle.std.proofs.Common.{drop, ◌≡◌, ◌≢◌, ℕ, suc, ◌≤◌, Bool, true, false, List, [], ◌∷◌, ◌++◌, length, map, Option, Some, refl, sym, subst, ap, ◌∙◌, inl, inr, arith, append-nil, append_assoc, length-append}
+use Rattle.std.specs.Prelude.{◌==◌}
 use Rattle.std.specs.List.{AllByRecursion}
 use Rattle.std.specs.Result.{IsOk}
 use Rattle.std.proofs.lemmas.List.{length-map}
@@ -18,7 +18,7 @@ use Rattle.sf_meaning.specs.declared.movie.PlainMovie.{PlainMovie}
 use Rattle.sf_layout.specs.Layout.{layout, track_chunks}
 use Rattle.sf_layout.specs.Writable.{Writable}
 use Rattle.sf_layout.proofs.LayoutLaws.{layout_read, layouts_joined}
-use Rattle.sf_interleave.specs.Waiting.{earliest_front, how_many, list_of}
+use Rattle.sf_interleave.specs.Waiting.{how_many, list_of}
 use Rattle.sf_series.specs.declared.limits.Limits.{Limits}
 use Rattle.sf_series.specs.declared.limits.LimitShown.{LimitShown}
 use Rattle.sf_series.specs.declared.report.Report.{Report}
@@ -30,7 +30,7 @@ use Rattle.sf_series.specs.Kept.{Kept}
 use Rattle.sf_series.specs.Names.{file_name, names_to}
 use Rattle.sf_series.specs.ReadBack.{Begin, Gained, ReadBack, ReadToFault, ReadToLimit, WholeReadBack}
 use Rattle.sf_series.specs.Series.{OpenSeries}
-use Rattle.sf_series.specs.Shelved.{AllKept, BrokenOn, closed_in, with_files}
+use Rattle.sf_series.specs.Shelved.{AllKept, closed_in, with_files}
 use Rattle.sf_series.specs.Switching.{Put, Into, Next, Limit, Switched, closed_length, files_after, go_on, put, switched_from}
 use Rattle.sf_series.specs.Within.{Within}
 use Rattle.sf_series.proofs.ReadBack.{files_below, files_full, files_say, files_within, files_writable, next_handed, samples_each}

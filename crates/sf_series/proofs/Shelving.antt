@@ -1,10 +1,10 @@
 -- The files of a series on a shelf: one more is made, closed, or kept as far as it was written.
-use Rattle.std.proofs.Common.{◌≡◌, ℕ, suc, ◌+◌, ◌≤◌, List, [], ◌∷◌, ◌++◌, length, map, Option, Some, None, refl, sym, subst, ap, ◌∙◌, inl, inr, append_assoc, length-append, arith}
+use Rattle.std.proofs.Common.{◌≡◌, ℕ, suc, ◌+◌, ◌≤◌, List, [], ◌∷◌, ◌++◌, length, map, Option, Some, None, refl, sym, subst, ap, ◌∙◌, inr, append_assoc, length-append, arith}
 use Rattle.std.proofs.lemmas.List.{map-append}
 use Rattle.sf_tick.specs.declared.types.Chunk.{Chunk}
 use Rattle.sf_entry.specs.declared.track_setup.TrackSetup.{TrackSetup}
 use Rattle.sf_world.specs.Contents.{shelved}
-use Rattle.sf_world.specs.Views.{KeptAtMost, KeptNone, KeptSome, ShelfView}
+use Rattle.sf_world.specs.Views.{KeptAtMost, ShelfView}
 use Rattle.sf_layout.specs.Layout.{layout}
 use Rattle.sf_series.specs.Files.{into_open, open_file}
 use Rattle.sf_series.specs.Names.{file_name, names_to}

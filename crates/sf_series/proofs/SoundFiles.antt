@@ -1,5 +1,5 @@
 -- What holds of the files of a series still holds after a file is made, closed, or gets a chunk.
-use Rattle.std.proofs.Common.{◌≡◌, ℕ, zero, suc, ◌+◌, ◌*◌, ◌^◌, ◌<◌, ◌≤◌, List, [], ◌∷◌, ◌++◌, length, map, set, get_or, replicate, Option, Some, None, IfSome, refl, sym, subst, ap, ◌∙◌, inl, inr, append-nil, length-append, arith, get_or-set_same, get_or-set_other}
+use Rattle.std.proofs.Common.{◌≡◌, ℕ, zero, suc, ◌+◌, ◌*◌, ◌^◌, ◌<◌, ◌≤◌, List, [], ◌∷◌, ◌++◌, length, map, set, get_or, replicate, Option, Some, None, refl, sym, subst, ap, ◌∙◌, inl, inr, append-nil, length-append, arith, get_or-set_same, get_or-set_other}
 use Rattle.std.specs.Prelude.{slice_get, option_map, unwrap_or}
 use Rattle.std.specs.List.{AllByRecursion}
 use Rattle.std.proofs.lemmas.Bool.{cases_lt}
@@ -15,7 +15,7 @@ use Rattle.sf_file.specs.Open as one_file
 use Rattle.std.proofs.lemmas.Option.{slice_get_within}
 use Rattle.sf_series.specs.Series.{HoldsOn}
 use Rattle.sf_series.specs.inner.Writing.{CanPut, CountsFit, HasRoomAlone, HasRoomFor, IsFresh, IsOpen, open_count}
-use Rattle.sf_series.proofs.Waits.{fresh_at, weaken, with_at}
+use Rattle.sf_series.proofs.Waits.{weaken}
 
 -- how many samples a track has with one more chunk
 timed_more : (rows : List Row) (place : ℕ) (c : Chunk) → timed_of (rows ++ row_at place c ∷ []) ≡ timed_of rows ++ map timed c.samples

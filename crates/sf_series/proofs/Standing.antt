@@ -1,22 +1,20 @@
 -- For which state of the core a series stands after a chunk is handed or written.
-use Rattle.std.proofs.Common.{◌≡◌, ℕ, ◌+◌, ◌<◌, ◌≤◌, Bool, true, false, cond, List, [], ◌∷◌, ◌++◌, length, set, replicate, Option, Some, None, is_some, refl, sym, subst, ap, ◌∙◌, inl, inr, append-nil, length-append, arith, get_or-set_same, get_or-set_other}
+use Rattle.std.proofs.Common.{◌≡◌, ℕ, ◌+◌, ◌<◌, Bool, true, false, cond, List, [], ◌∷◌, ◌++◌, length, set, replicate, Option, Some, None, is_some, refl, sym, subst, ap, ◌∙◌, inl, inr, append-nil, length-append, arith, get_or-set_same}
 use Rattle.std.specs.Prelude.{get_or, slice_get}
 use Rattle.std.proofs.lemmas.Bool.Decides.{eqb_tells, nat_tests}
-use Rattle.std.proofs.lemmas.List.{length-set, length-replicate, get_or-replicate}
+use Rattle.std.proofs.lemmas.List.{length-replicate, get_or-replicate}
 use Rattle.std.proofs.lemmas.List.Concat.{flat_map-append}
 use Rattle.std.proofs.lemmas.Option.{slice_get-get_or, slice_get_within}
 use Rattle.sf_tick.specs.declared.types.Stored.{Stored}
 use Rattle.sf_tick.specs.declared.types.Chunk.{Chunk}
 use Rattle.sf_entry.specs.declared.track_setup.TrackSetup.{TrackSetup}
 use Rattle.sf_world.specs.Views.{ShelfView}
-use Rattle.sf_gather.specs.declared.given.LastSample.{LastSample}
 use Rattle.sf_gather.specs.Accepting.{last_from, last_of}
-use Rattle.sf_gather.specs.Proper.{Extends, Tail, samples_of}
+use Rattle.sf_gather.specs.Proper.{Tail, samples_of}
 use Rattle.sf_gather.proofs.GatherLaws.{last_from-append}
 use Rattle.sf_interleave.specs.Waiting.{earliest_front, list_of, with_chunk, without_front}
 use Rattle.sf_series.specs.declared.faults.SeriesFault.{SeriesFault}
 use Rattle.sf_series.specs.declared.faults.SeriesFault.TheVariants.{Limit as LimitMet, NoMemory, WriteFault}
-use Rattle.sf_series.specs.declared.limits.Limits.{Limits}
 use Rattle.sf_series.specs.declared.limits.LimitShown.{LimitShown}
 use Rattle.sf_series.specs.Core.{State, failed, fresh, hand, is_filled, put_in, taken, with_filled, with_mark, write, write_picked}
 use Rattle.sf_series.specs.Fitting.{CanHand, tail_in}

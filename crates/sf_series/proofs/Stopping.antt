@@ -1,5 +1,5 @@
 -- How a series ends after a limit.
-use Rattle.std.proofs.Common.{inl, OnOk, Ok, ◌≡◌, true, List, Option, Some, Result, Err, IfErr, is_some, refl, sym, subst, ap, ◌∙◌}
+use Rattle.std.proofs.Common.{inl, OnOk, Ok, ◌≡◌, List, Option, Some, Result, Err, IfErr, is_some, refl, sym, subst, ap, ◌∙◌}
 use Rattle.sf_tick.specs.declared.types.Chunk.{Chunk}
 use Rattle.sf_entry.specs.declared.track_setup.TrackSetup.{TrackSetup}
 use Rattle.sf_world.specs.Views.{ShelfView}

@@ -1,5 +1,5 @@
 -- Chunks that wait can be put into the open file: with one more that is handed, and after one that is put.
-use Rattle.std.proofs.Common.{◌≡◌, ℕ, zero, suc, ◌+◌, ◌<◌, ◌≤◌, ◌⊎◌, List, [], ◌∷◌, ◌++◌, length, drop, set, Option, Some, None, refl, sym, subst, ap, ◌∙◌, inl, inr, append-nil, arith, get_or-set_same, get_or-set_other}
+use Rattle.std.proofs.Common.{◌≡◌, ℕ, zero, suc, ◌+◌, ◌≤◌, ◌⊎◌, List, [], ◌∷◌, ◌++◌, length, drop, set, Option, Some, None, refl, sym, subst, ap, ◌∙◌, inl, inr, append-nil, arith, get_or-set_same}
 use Rattle.std.specs.Prelude.{slice_get}
 use Rattle.std.specs.List.{AllByRecursion}
 use Rattle.std.proofs.lemmas.Bool.Decides.{eqb_tells}
@@ -9,13 +9,13 @@ use Rattle.sf_tick.specs.declared.types.Stored.{Stored}
 use Rattle.sf_tick.specs.declared.types.Chunk.{Chunk}
 use Rattle.sf_entry.specs.declared.track_setup.TrackSetup.{TrackSetup}
 use Rattle.sf_gather.specs.declared.given.LastSample.{LastSample}
-use Rattle.sf_gather.specs.Accepting.{kept_of, last_from}
-use Rattle.sf_gather.specs.Proper.{AllFollow, Tail, samples_of}
+use Rattle.sf_gather.specs.Accepting.{last_from}
+use Rattle.sf_gather.specs.Proper.{AllFollow, samples_of}
 use Rattle.sf_gather.proofs.GatherLaws.{append_follows, follow_append, last_from-append}
-use Rattle.sf_interleave.specs.Waiting.{OfTheirTracks, earliest_front, list_of, with_chunk, without_front}
+use Rattle.sf_interleave.specs.Waiting.{OfTheirTracks, earliest_front, list_of, without_front}
 use Rattle.sf_interleave.proofs.WaitingLaws.{picked_first}
 use Rattle.sf_file.specs.Open.{HeldTrack, held_from, track_with, tracks_with}
-use Rattle.sf_series.specs.inner.Waits.{AllWait, IsWaiting, WaitAfter, with_left}
+use Rattle.sf_series.specs.inner.Waits.{IsWaiting, WaitAfter, with_left}
 use Rattle.sf_series.proofs.Lists.{some_inside}
 
 -- samples that follow another one can begin a file

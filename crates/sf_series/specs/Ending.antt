@@ -1,5 +1,5 @@
 -- How a series of files ends, and what is reported of it.
-use Rattle.std.specs.Prelude.{◌≡◌, ℕ, zero, suc, ◌<◌, ◌⊎◌, Bool, true, false, List, [], ◌∷◌, length, map, slice_get, Option, Some, None, if◌then◌else◌}
+use Rattle.std.specs.Prelude.{◌≡◌, ℕ, zero, suc, ◌<◌, ◌⊎◌, Bool, true, false, List, length, map, slice_get, Some, None, if◌then◌else◌}
 use Rattle.sf_tick.specs.declared.types.Chunk.{Chunk}
 use Rattle.sf_entry.specs.declared.track_setup.TrackSetup.{TrackSetup}
 use Rattle.sf_world.specs.Views.{ShelfView}

@@ -1,5 +1,5 @@
 -- What is handed of each track by its setup.
-use Rattle.std.specs.Prelude.{false, get_or, slice_get, Some, ◌≡◌, ℕ, ◌+◌, ◌^◌, ◌<◌, ◌≤◌, List, [], ◌∷◌, length}
+use Rattle.std.specs.Prelude.{false, get_or, slice_get, Some, ◌≡◌, ℕ, ◌+◌, ◌≤◌, List, [], ◌∷◌, length}
 use Rattle.std.specs.List.{AllByRecursion}
 use Rattle.sf_tick.specs.declared.types.Chunk.{Chunk}
 use Rattle.sf_entry.specs.declared.track_setup.TrackSetup.{TrackSetup}

@@ -1,6 +1,6 @@
 //! What holds of a series of files, over lists alone. The crates above build on these laws.
 
-ghost use Rattle.std.specs.Prelude.{drop, get_or, set, slice_get, ◌≡◌, ℕ, ◌+◌, ◌<◌, ◌≤◌, ⊥, if◌then◌else◌, Bool, true, false, List, [], ◌∷◌, ◌++◌, length, map, Some, None};
+ghost use Rattle.std.specs.Prelude.{drop, get_or, set, slice_get, ◌≡◌, ℕ, ◌+◌, ◌<◌, ◌≤◌, if◌then◌else◌, Bool, true, false, List, [], ◌∷◌, ◌++◌, length, map, Some, None};
 ghost use Rattle.std.specs.List.{AllByRecursion};
 ghost use Rattle.sf_tick.specs.declared.types.Chunk.{Chunk};
 ghost use Rattle.sf_entry.specs.declared.track_setup.TrackSetup.{TrackSetup};
@@ -95,7 +95,7 @@ pub fn files_are_switched()
 
 /// A law: a chunk that is handed is taken, until the core ended. One that joins its track's list, or none, leaves the number
 /// of the lists, those of the other tracks and the marks of these as they were. A track with a chunk in its list is one of
-/// the lists. Of a list of which one item is replaced, that one is the new one, and the others stay.
+/// the lists.
 #[tactic(auto, using(crate::proofs::SeriesLaws::hand_laws))]
 pub fn chunks_are_handed()
     ensures taken { (state : State) (chunk : Chunk) → state.ended ≡ false → hand state chunk ≡ taken state chunk }
@@ -104,8 +104,6 @@ pub fn chunks_are_handed()
         → list_of (if joins then with_chunk lists chunk else lists) track ≡ list_of lists track }
     ensures marks { (ends : Bool) (marks : List Bool) (at track : ℕ) → (at ≡ track → ⊥) → get_or (if ends then set marks at true else marks) track false ≡ get_or marks track false }
     ensures inside { (lists : List (List Chunk)) (track : ℕ) (chunk : Chunk) (rest : List Chunk) → list_of lists track ≡ chunk ∷ rest → track < length lists }
-    ensures new { (A : Type 0) (items : List A) (at : ℕ) (old new : A) → slice_get items at ≡ Some old → slice_get (set items at new) at ≡ Some new }
-    ensures old { (A : Type 0) (items : List A) (at other : ℕ) (new : A) → (at ≡ other → ⊥) → slice_get (set items at new) other ≡ slice_get items other }
 {}
 
 /// A law: files are those that are closed and then the open one. One more file closes them all, one more chunk none.
@@ -176,11 +174,10 @@ pub fn files_are_read_back()
         → write_order (length setups) (layout setups file) ≡ order_of file }
 {}
 
-/// A law: several writes keep of a state what each write keeps, and change nothing once it ended. Where none waits after
-/// them, all that was handed stands in files.
+/// A law: what several writes keep of a state, unless a limit ends them. They change nothing once it ended. Where none waits
+/// after them, all that was handed stands in files.
 #[tactic(auto, using(crate::proofs::WrittenOut::written_laws))]
 pub fn several_writes_keep()
-    ensures each { (P : State → Type 0) (count : ℕ) (limits : Limits) (setups : List TrackSetup) (state : State) → ((s : State) → P s → P (write limits setups s)) → P state → P (written count limits setups state) }
     ensures ended { (count : ℕ) (limits : Limits) (setups : List TrackSetup) (state : State) → state.ended ≡ true → written count limits setups state ≡ state }
     ensures kept { (count : ℕ) (limits : Limits) (setups : List TrackSetup) (state : State) → Kept limits setups state → Kept limits setups (written count limits setups state) }
     ensures proper { (count : ℕ) (limits : Limits) (setups : List TrackSetup) (state : State) → AreProper setups state → AreProper setups (written count limits setups state) }

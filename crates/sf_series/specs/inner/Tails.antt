@@ -1,5 +1,5 @@
 -- The tail of a track's chunks, as it is kept.
-use Rattle.std.specs.Prelude.{ℕ, ◌+◌, Bool, true, false, Option, Some, None, if◌then◌else◌}
+use Rattle.std.specs.Prelude.{ℕ, ◌+◌, true, false, Option, Some, None, if◌then◌else◌}
 use Rattle.sf_tick.specs.declared.types.Chunk.{Chunk}
 use Rattle.sf_gather.specs.Accepting.{last_from}
 use Rattle.sf_gather.specs.Proper.{Tail}

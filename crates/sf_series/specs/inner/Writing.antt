@@ -7,7 +7,6 @@ use Rattle.sf_gather.specs.Proper.{AllFollow}
 use Rattle.sf_layout.specs.Layout.{movie_box}
 use Rattle.sf_file.specs.Open.{AreSetups, HeldTrack, OpenFile, closing_box_with, count_of, held_from, rows_in, setups_of, tracks_with}
 use Rattle.sf_file.specs.Open as one_file
-use Rattle.sf_series.specs.declared.limits.Limits.{Limits}
 use Rattle.sf_series.specs.Series.{AreLimits, OpenFiles}
 
 -- how many samples an open file holds of a track; none where there is no open file

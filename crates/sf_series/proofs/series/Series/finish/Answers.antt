@@ -1,4 +1,4 @@
-use Rattle.std.proofs.Common.{ap, sym, ◌∙◌}
+use Rattle.std.proofs.Common.{ap}
 use Rattle.sf_series.specs.Series.{OpenSeries}
 use Rattle.sf_series.proofs.Stopping.{broken_of, if_err_then, left_of, of_err, stopped_of}
 use Rattle.sf_series.proofs.series.Series.finish.Goals as goal

@@ -1,4 +1,4 @@
-use Rattle.std.proofs.Common.{rules, ◌≡◌, ◌≤◌, ℕ, suc, ◌+◌, List, Some, Ok, Err, refl, sym, ap, ◌∙◌, arith, inr}
+use Rattle.std.proofs.Common.{rules, ◌≡◌, ◌≤◌, suc, ◌+◌, List, Some, Ok, Err, refl, sym, ap, ◌∙◌, arith, inr}
 use Rattle.sf_tick.specs.declared.types.Chunk.{Chunk}
 use Rattle.sf_interleave.proofs.WaitingLaws.{none_waits}
 use Rattle.sf_series.specs.declared.series.Wrote.{Wrote}

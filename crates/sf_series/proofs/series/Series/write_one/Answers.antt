@@ -1,11 +1,10 @@
-use Rattle.std.proofs.Common.{◌≡◌, ℕ, List, Option, Some, None, IfSome, Result, Err, refl, sym, ap, subst, ◌∙◌}
+use Rattle.std.proofs.Common.{◌≡◌, List, Option, Some, None, IfSome, Err, refl, sym, ap, subst, ◌∙◌}
 use Rattle.sf_tick.specs.declared.types.Chunk.{Chunk}
 use Rattle.sf_file.specs.Open.{OpenFile}
 use Rattle.sf_interleave.specs.Waiting.{earliest_front, without_front}
 use Rattle.sf_series.specs.declared.faults.SeriesFault.{SeriesFault}
 use Rattle.sf_series.specs.declared.faults.SeriesFault.TheVariants.{Limit}
-use Rattle.sf_series.specs.Core.{failed, write}
-use Rattle.sf_series.specs.Series.{MeetsLimit, OpenSeries, Stands}
+use Rattle.sf_series.specs.Series.{OpenSeries}
 use Rattle.sf_series.specs.inner.Waits.{GoesOn, with_left}
 use Rattle.sf_series.specs.inner.Writing.{CanPut}
 use Rattle.sf_series.proofs.Going.{can_put, goes_put, going, gone}

@@ -1,14 +1,12 @@
-use Rattle.std.proofs.Common.{rules, ◌≡◌, ℕ, ◌<◌, Bool, true, false, List, [], length, replicate, Some, None, refl, sym, ap, subst, ◌∙◌, arith}
+use Rattle.std.proofs.Common.{rules, ◌≡◌, ℕ, true, false, List, [], length, replicate, Some, None, refl, sym, ap, ◌∙◌, arith}
 use Rattle.std.specs.Prelude.{slice_get}
 use Rattle.std.proofs.lemmas.List.{get_or-replicate, length-replicate}
 use Rattle.std.proofs.lemmas.Option.{slice_get-get_or}
 use Rattle.sf_entry.specs.declared.track_setup.TrackSetup.{TrackSetup}
 use Rattle.sf_layout.specs.Layout.{layout}
-use Rattle.sf_series.specs.declared.limits.LimitShown.{LimitShown}
 use Rattle.sf_series.specs.declared.limits.LimitShown.TheVariants.{Nothing}
 use Rattle.sf_series.specs.Series.{OpenFiles}
 use Rattle.sf_series.specs.Switching.{closed_length, passes}
-use Rattle.sf_series.proofs.Answers.{on_err}
 use Rattle.sf_series.proofs.Kept.{closed_none}
 use Rattle.sf_series.proofs.series_files.SeriesFiles.begin.Goals as goal
 

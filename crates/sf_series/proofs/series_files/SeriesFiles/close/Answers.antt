@@ -1,7 +1,7 @@
-use Rattle.std.proofs.Common.{◌≡◌, ℕ, ◌+◌, ◌≤◌, List, [], ◌∷◌, ◌++◌, length, Option, Some, None, refl, sym, ap, subst, ◌∙◌}
+use Rattle.std.proofs.Common.{◌≡◌, ℕ, List, [], ◌∷◌, ◌++◌, Option, Some, None, refl, sym, ap, subst, ◌∙◌}
 use Rattle.sf_file.specs.Open.{OpenFile}
 use Rattle.sf_series.specs.Series.{FilesStand, OpenFiles}
-use Rattle.sf_series.specs.inner.Writing.{CountsFit, IsOpen}
+use Rattle.sf_series.specs.inner.Writing.{CountsFit}
 use Rattle.sf_series.proofs.Answers.{of_some, on_err}
 use Rattle.sf_series.proofs.Kept.{broken_stands, closed_stands}
 use Rattle.sf_series.proofs.SoundFiles.{fit_closed}

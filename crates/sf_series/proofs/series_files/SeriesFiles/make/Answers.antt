@@ -1,10 +1,10 @@
-use Rattle.std.proofs.Common.{rules, ◌≡◌, ℕ, ◌+◌, ◌≤◌, List, [], ◌∷◌, ◌++◌, length, Option, Some, None, refl, sym, ap, subst, ◌∙◌, inl, arith}
+use Rattle.std.proofs.Common.{rules, ◌≡◌, ℕ, ◌+◌, List, [], length, refl, sym, ap, subst, inl, arith}
 use Rattle.sf_world.specs.Views.{KeptAtMost}
 use Rattle.sf_series.specs.Names.{file_name}
 use Rattle.sf_entry.specs.declared.track_setup.TrackSetup.{TrackSetup}
 use Rattle.sf_series.specs.Series.{FilesClosed, HoldsOn, OpenFiles}
 use Rattle.sf_series.specs.Shelved.{IsMade}
-use Rattle.sf_series.specs.inner.Writing.{IsFresh, IsOpen}
+use Rattle.sf_series.specs.inner.Writing.{IsFresh}
 use Rattle.sf_series.proofs.Answers.{on_err}
 use Rattle.sf_series.proofs.Kept.{made_breaks, made_stands}
 use Rattle.sf_series.proofs.SoundFiles.{fit_made, fresh_holds, fresh_open}

@@ -1,10 +1,9 @@
-use Rattle.std.proofs.Common.{◌≡◌, ℕ, ◌+◌, ◌<◌, ◌≤◌, List, length, Option, Some, None, refl, sym, ap, subst, ◌∙◌, arith}
+use Rattle.std.proofs.Common.{◌≡◌, ℕ, ◌+◌, ◌<◌, List, length, Some, refl, sym, ap, subst, ◌∙◌, arith}
 use Rattle.std.specs.Prelude.{slice_get, nat_lt}
 use Rattle.std.proofs.lemmas.Option.{slice_get_read}
 use Rattle.sf_entry.specs.declared.track_setup.TrackSetup.{TrackSetup}
 use Rattle.sf_series.specs.Series.{FilesStand, OpenFiles}
 use Rattle.sf_series.specs.Switching.{is_lead, put}
-use Rattle.sf_series.specs.inner.Rule.{put_as}
 use Rattle.sf_series.proofs.Answers.{of_some}
 use Rattle.sf_series.proofs.Foreseen.{foreseen}
 use Rattle.sf_series.proofs.SoundFiles.{appendable, can_put_fresh, fresh_open, put_inside, stands_fresh}
