@@ -1,5 +1,5 @@
 -- Where nothing failed, the answer of a recording is the one that the inputs' bytes call for.
-use Rattle.std.proofs.Common.{◌≡◌, ℕ, zero, suc, ◌+◌, ◌<◌, ◌⊎◌, Bool, true, false, cond, List, [], ◌∷◌, ◌++◌, length, map, Option, Some, None, refl, sym, ap, subst, ◌∙◌, inl, inr, arith}
+use Rattle.std.proofs.Common.{◌≡◌, ℕ, zero, suc, ◌+◌, ◌<◌, ◌≤◌, ◌⊎◌, Bool, true, false, cond, List, [], ◌∷◌, ◌++◌, length, map, Option, Some, None, refl, sym, ap, subst, ◌∙◌, inl, inr, arith}
 use Rattle.std.specs.Prelude.{slice_get}
 use Rattle.std.specs.Option.{option_to_list}
 use Rattle.sf_coded.specs.declared.types.CodedFault.TheVariants.{Magic, Version, KindCode, ConfigTooLong, Truncated, Tag, Empty, TooLong, Trailing, ReadFault as CodedReadFault, NoMemory as CodedNoMemory}
@@ -254,3 +254,12 @@ ends_called {asked} {given} (Refused track fault) inputs (inr rec) told not = in
 ends_called {asked} {given} (ReadFault input) inputs (inl header) told not = absurd (header_called input read_fault inputs told not header).1
 ends_called {asked} {given} (ReadFault input) inputs (inr rec) told not = inr (recorded_called (ReadFault input) inputs told not rec)
 ends_called {asked} {given} NoMemory inputs ends told not = inl refl
+
+pub never_rose : (a b : ℕ) → a ≡ 0 → b ≡ 0 → Rose a b → ⊥
+never_rose a b x y rose = let wrong : 1 ≤ 0 = omega (arith, x, y, rose) in omega (arith, wrong)
+
+-- no count rises of sources that never fail
+pub none_risen : {A : Type 0} (f : A → SourceView) (xs ys : List A) → ((x : A) → (f x).faults ≡ 0) → NoneRose (map f xs) (map f ys)
+none_risen {A} f [] ys never = tt
+none_risen {A} f (x ∷ xs) [] never = tt
+none_risen {A} f (x ∷ xs) (y ∷ ys) never = (never_rose (f x).faults (f y).faults (never x) (never y), none_risen f xs ys never)

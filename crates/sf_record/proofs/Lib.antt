@@ -2,7 +2,7 @@
 pub mod Inputs
 pub mod Endings
 pub mod Counted
-pub mod Headers
+pub mod HeaderSaid
 pub mod Staying
 pub mod Errors
 pub mod Handing

@@ -19,7 +19,7 @@ use Rattle.sf_record.specs.declared.faults.TrackFault.{TrackFault}
 use Rattle.sf_record.specs.declared.headers.Untaken.{Untaken}
 use Rattle.sf_record.specs.declared.headers.Untaken.TheVariants.{Fault, NoMemory as MemoryWanted}
 use Rattle.sf_record.proofs.Counted.{rose_behind}
-use Rattle.sf_record.proofs.Headers.{header_not, setup_not}
+use Rattle.sf_record.proofs.HeaderSaid.{header_not, setup_not}
 use Rattle.sf_record.specs.inner.Headers.{AllOpened, HeadersRead, IsOpened, IsUntaken, StopsAt}
 
 -- as many setups and pumps as inputs

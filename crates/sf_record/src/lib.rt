@@ -10,11 +10,13 @@ mod advance;
 mod deal;
 mod faults;
 mod headers;
+mod laws;
 mod pump;
 mod serial;
 mod serial_end;
 
 pub use faults::{InputFault, TrackFault};
+pub use laws::record_surely;
 pub use pump::{Pump, Stepped};
 pub use serial::record_serial;
 pub use serial_end::{SerialEnd, SerialOutcome};

@@ -5,7 +5,7 @@ use Rattle.sf_entry.specs.TrackSetup.{Makes, made}
 use Rattle.sf_world.specs.Views.{Unchanged}
 use Rattle.sf_record.specs.Pump.{Stands}
 use Rattle.sf_record.proofs.EntryLength.{entry_short}
-use Rattle.sf_record.proofs.Headers.{header_opened}
+use Rattle.sf_record.proofs.HeaderSaid.{header_opened}
 use Rattle.sf_record.proofs.Opened.{setup_untaken}
 use Rattle.sf_record.proofs.headers.pump_of.Goals as goal
 

@@ -51,10 +51,12 @@ returns g c =
     let none = c.in-None.ensures.steps in
     let empty : into_iter_items at.source-iterator ≡ [] = nothing_left _ (sym at.invariant.len ∙ none.0) in
     let all = sym (append-nil at.yielded) ∙ ap (λ xs. at.yielded ++ xs) (sym empty) ∙ at.invariant.left ∙ c.into_iter-source-iterator.ensures.into_iter_gives.0 in
-    let read = λ (before : List SourceView) h.
-    subst (λ (vs : List SourceView). HeadersRead c.args.options (before ++ vs) at.self.setups.items at.self.pumps.items (map (λ s. g.S.Source.seen s) at.self.rest.items) at.self.untaken)
-    (ap (λ xs. map (λ s. g.S.Source.seen s) xs) all) (at.invariant.read before h) in
+    let seen = ap (λ xs. map (λ s. g.S.Source.seen s) xs) all in
     record {
-      read = read;
-      first = λ none. read [] (none_read _ _ _ _ _ none.0 none.1 (ap (λ xs. map (λ s. g.S.Source.seen s) xs) none.2) none.3);
+      read = λ before h.
+          subst (λ (vs : List SourceView). HeadersRead c.args.options (before ++ vs) at.self.setups.items at.self.pumps.items (map (λ s. g.S.Source.seen s) at.self.rest.items) at.self.untaken)
+          seen (at.invariant.read before h);
+      first = λ none.
+          subst (λ (vs : List SourceView). HeadersRead c.args.options vs at.self.setups.items at.self.pumps.items (map (λ s. g.S.Source.seen s) at.self.rest.items) at.self.untaken)
+          seen (at.invariant.read [] (none_read _ _ _ _ _ none.0 none.1 (ap (λ xs. map (λ s. g.S.Source.seen s) xs) none.2) none.3));
     }
