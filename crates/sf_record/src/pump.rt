@@ -13,8 +13,8 @@ ghost use Rattle.sf_world.specs.Views.{Unchanged};
 ghost use Rattle.sf_record.specs.Input.{given_of, read_fault};
 ghost use Rattle.sf_record.specs.Pump.{NotEndedEarly, Stands, StepsTo, left, rest_of, turns_left};
 
-use crate::faults::TrackFault;
 use crate::advance::{Advance, go_on};
+use crate::faults::TrackFault;
 use sf_coded::{Coded, CodedSample};
 use sf_entry::TrackSetup;
 use sf_gather::{Gather, Given, Options, closed_chunks_stay};

@@ -1,6 +1,8 @@
 //! Several inputs that are recorded into a series of files on one thread.
 
-use super::ended::{Ended, Failing, NONE, NOTHING, PLAIN, Plan, THREE, bounded, halves, one, record};
+use super::ended::{
+    Ended, Failing, NONE, NOTHING, PLAIN, Plan, THREE, bounded, halves, one, record,
+};
 use crate::{InputFault, SerialOutcome, TrackFault};
 use sf_coded::CodedFault;
 use sf_gather::SampleFault;

@@ -40,8 +40,7 @@ returns-clause-ends g c begun state d0 turn =
       at_end = f.later;
     } in
     let told : c.lowest_fault.result ≡ lowest_fault 0 (map (λ p. p.fault) c.deal-dealt.new.pumps.items) =
-    c.lowest_fault.ensures ∙ ap (λ (ps : List Pumping). lowest_fault 0 (map (λ p. p.fault) ps)) c.as_slice.ensures.value in
-    (
+    c.lowest_fault.ensures ∙ ap (λ (ps : List Pumping). lowest_fault 0 (map (λ p. p.fault) ps)) c.as_slice.ensures.value in (
       subst (λ (o : SerialOutcome). WriteEnds begun (g.O.Shelf.seen c.args.shelf.now) c.args.series.files.limits c.args.series.files.setups c.deal-dealt.new.pumps.items c.finish-report.result.0 (g.O.Shelf.seen c.finish-report.new.shelf) o) (sym c.outcome_by.ensures)
           (write_ends c.deal-dealt.result c.finish-report.result.1 c.lowest_fault.result told wrote),
       made_kept c.deal-dealt.result c.finish-report.result.1 wrote,
