@@ -4,17 +4,6 @@ use Rattle.std.proofs.lemmas.Bool.{cases_lt}
 use Rattle.std.proofs.lemmas.List.{take-take, take_all}
 use Rattle.std.proofs.lemmas.List.Sums.{sum_by_more, sum_by-take-le}
 use Rattle.sf_meaning.specs.SampleAt.{IsChunkOf}
-use Rattle.sf_meaning.specs.declared.entries.ChunkAt.{ChunkAt}
-use Rattle.sf_cursor.specs.inner.Sound.{counts_as}
-
-pub count_at : (chunks : List ChunkAt) (c : ℕ) (d : ChunkAt) → c < length chunks → get_or (counts_as chunks) c 0 ≡ (get_or chunks c d).per
-count_at [] c d lt = absurd (omega (arith, lt))
-count_at (x ∷ chunks) zero d lt = refl
-count_at (x ∷ chunks) (suc c) d lt = count_at chunks c d (omega (arith, lt))
-
-pub length-counts : (chunks : List ChunkAt) → length (counts_as chunks) ≡ length chunks
-length-counts [] = refl
-length-counts (x ∷ chunks) = ap suc (length-counts chunks)
 
 -- the first items sum to no more than more of them
 pub sum-take : (xs : List ℕ) (m n : ℕ) → m ≤ n → sum (take m xs) ≤ sum (take n xs)

@@ -10,9 +10,6 @@ use Rattle.sf_meaning.specs.declared.faults.MovieFault.{MovieFault}
 use Rattle.sf_meaning.specs.declared.faults.MovieFault.TheVariants.{SampleOutside, SampleTooLarge}
 use Rattle.sf_meaning.specs.declared.movie.PlainSample.{PlainSample}
 use Rattle.sf_cursor.specs.inner.Held.{AreInChunk, AreInChunks, IsThere, ends_held}
-use Rattle.sf_cursor.specs.inner.Sound.{counts_as}
-use Rattle.sf_cursor.proofs.ChunkSums.{count_at, length-counts}
-use Rattle.sf_meaning.specs.declared.entries.ChunkAt.{ChunkAt}
 use Rattle.std.proofs.lemmas.Bool.{cases_lt, le-leb}
 use Rattle.sf_cursor.proofs.RunValues.{sum-same}
 
@@ -156,32 +153,32 @@ all_places (Err f) bytes track ss is lt = tt
 -- ---- chunk by chunk
 
 -- the next chunk's samples
-pub chunk_here : (chunks : List ChunkAt) (sizes : List ℕ) (ss : List PlainSample) (k from some : ℕ) (d : ChunkAt) → k < length chunks
-    → from ≡ min (sum (take k (counts_as chunks))) (length sizes) → some ≡ min (get_or chunks k d).per (length sizes - from)
-    → AreInChunks chunks sizes ss → AreInChunk (get_or chunks k d).place sizes from some ss
-chunk_here chunks sizes ss k from some d there reached is all =
+pub chunk_here : (counts places sizes : List ℕ) (ss : List PlainSample) (k from some : ℕ) → from ≡ min (sum (take k counts)) (length sizes)
+    → some ≡ min (get_or counts k 0) (length sizes - from) → AreInChunks counts places sizes ss → AreInChunk (get_or places k 0) sizes from some ss
+chunk_here counts places sizes ss k from some reached is all =
     λ j less.
-    let s : ℕ = sum (take k (counts_as chunks)) in
+    let s : ℕ = sum (take k counts) in
     elim (cases_lt (length sizes) s) [
       | inl over ↦ absurd (omega (arith, over, reached, is, less))
       | inr within ↦
           let same : from ≡ s = omega (arith, reached, within) in
-          subst (λ (n : ℕ). IsThere ss (n + j) ((get_or chunks k d).place + sum (take j (drop n sizes))) (get_or sizes (n + j) 0)) (sym same)
-          (all k d there j (omega (arith, less, is, same)))
+          subst (λ (n : ℕ). IsThere ss (n + j) (get_or places k 0 + sum (take j (drop n sizes))) (get_or sizes (n + j) 0)) (sym same)
+          (all k j (omega (arith, less, is, same)))
     ]
 
-pub reached_next : (chunks : List ChunkAt) (n k from some : ℕ) (d : ChunkAt) → k < length chunks
-    → from ≡ min (sum (take k (counts_as chunks))) n → some ≡ min (get_or chunks k d).per (n - from)
-    → from + some ≡ min (sum (take (k + 1) (counts_as chunks))) n
-reached_next chunks n k from some d there reached is =
-    let counts : List ℕ = counts_as chunks in
-    let per : get_or counts k 0 ≡ (get_or chunks k d).per = count_at chunks k d there in
-    let more : sum (take (k + 1) counts) ≡ sum (take k counts) + get_or counts k 0 = sum_by_more (λ (x : ℕ). x) counts k 0 (omega (arith, there, length-counts chunks)) in
-    omega (arith, reached, is, per, more)
+pub reached_next : (counts : List ℕ) (n k from some : ℕ) → k < length counts → from ≡ min (sum (take k counts)) n → some ≡ min (get_or counts k 0) (n - from)
+    → from + some ≡ min (sum (take (k + 1) counts)) n
+reached_next counts n k from some there reached is =
+    let more : sum (take (k + 1) counts) ≡ sum (take k counts) + get_or counts k 0 = sum_by_more (λ (x : ℕ). x) counts k 0 there in
+    omega (arith, reached, is, more)
 
 -- after all chunks no sample is left
-pub held_all : (bytes track : ℕ) (chunks : List ChunkAt) (n k from : ℕ) (ss : List PlainSample) → length chunks ≤ k → from ≡ min (sum (take k (counts_as chunks))) n
-    → n ≤ sum (counts_as chunks) → length ss ≡ n → held_in bytes track from (drop from ss) ≡ Ok tt
-held_all bytes track chunks n k from ss past reached reach long =
-    let whole : sum (take k (counts_as chunks)) ≡ sum (counts_as chunks) = ap sum (take_all k (counts_as chunks) (omega (arith, past, length-counts chunks))) in
+pub held_all : (bytes track : ℕ) (counts : List ℕ) (n k from : ℕ) (ss : List PlainSample) → length counts ≤ k → from ≡ min (sum (take k counts)) n
+    → n ≤ sum counts → length ss ≡ n → held_in bytes track from (drop from ss) ≡ Ok tt
+held_all bytes track counts n k from ss past reached reach long =
+    let whole : sum (take k counts) ≡ sum counts = ap sum (take_all k counts past) in
     ap (held_in bytes track from) (drop_all from ss (omega (arith, reached, whole, reach, long)))
+
+pub no_samples : (bytes track i : ℕ) (ss : List PlainSample) → length ss ≡ 0 → held_in bytes track i ss ≡ Ok tt
+no_samples bytes track i [] e = refl
+no_samples bytes track i (s ∷ ss) e = absurd (omega (arith, e))

@@ -1,4 +1,6 @@
+pub mod ChunkStarts
 pub mod ChunkSums
+pub mod RunChunks
 pub mod OneSample
 pub mod RunValues
 pub mod StartLemmas

@@ -2,11 +2,9 @@
 use Rattle.std.proofs.Common.{◌≡◌, ℕ, zero, suc, ℤ, pos, ◌+ℤ◌, ◌+◌, ◌-◌, ◌^◌, ◌<◌, ◌≤◌, nat_le, Bool, true, false, List, [], ◌∷◌, length, take, drop, map, sum, get_or, Some, Result, Ok, refl, sym, ap, ◌∙◌, subst, arith}
 use Rattle.std.specs.List.{slice_get}
 use Rattle.std.proofs.lemmas.Bool.{leb-true}
-use Rattle.std.proofs.lemmas.List.{get_or-take}
 use Rattle.sf_meaning.specs.Steps.{◌>>◌, check}
-use Rattle.sf_meaning.specs.inner.Entries.{held_as_listed, places_as}
 use Rattle.sf_meaning.specs.inner.TrackTables.{tables_view}
-use Rattle.sf_meaning.specs.Tables.{InChunk, is_sync}
+use Rattle.sf_meaning.specs.Tables.{is_sync}
 use Rattle.sf_meaning.specs.ReadTables.{sizes_view}
 use Rattle.sf_meaning.specs.SampleAt.{IsChunkOf, IsSampleAt, before}
 use Rattle.sf_meaning.specs.TrackSamples.{Tables, chunks_of, counts_of, listed, samples_said, samples_in}
@@ -14,9 +12,9 @@ use Rattle.sf_meaning.specs.declared.entries.ChunkAt.{ChunkAt}
 use Rattle.sf_meaning.specs.declared.movie.PlainSample.{PlainSample}
 use Rattle.sf_meaning.specs.declared.track_tables.Tables.{Tables as HeldTables}
 use Rattle.sf_cursor.specs.Cursor.{HasPlace}
-use Rattle.sf_cursor.specs.inner.Sound.{Sound, counts_as, counts_of_runs}
-use Rattle.sf_cursor.specs.inner.Held.{AreInChunks, IsThere}
-use Rattle.sf_cursor.proofs.ChunkSums.{chunk_found, count_at, length-counts}
+use Rattle.sf_cursor.specs.inner.Sound.{IsInChunk, Sound, counts_in, counts_of_runs}
+use Rattle.sf_cursor.specs.inner.Held.{AreInChunks}
+use Rattle.sf_cursor.proofs.ChunkSums.{chunk_found}
 use Rattle.sf_cursor.proofs.TickSums.{length_expand}
 
 -- ---- what the tables say
@@ -116,84 +114,55 @@ place_said law scale entries t e i c lt has is =
     subst (λ (d : ℕ). l.s.place ≡ get_or t.places d 0 + sum (take (i - before t d) (drop (before t d) t.sizes))) same l.is.place in
     rw (← place) low
 
--- ---- the chunks that a cursor keeps
-
-abbrev descriptions_as : List ChunkAt → List ℕ
-descriptions_as chunks = map (λ e. e.description) (held_as_listed chunks)
-
-description_at : (chunks : List ChunkAt) (c : ℕ) (d : ChunkAt) → c < length chunks → get_or (descriptions_as chunks) c 0 ≡ (get_or chunks c d).description
-description_at [] c d lt = absurd (omega (arith, lt))
-description_at (x ∷ chunks) zero d lt = refl
-description_at (x ∷ chunks) (suc c) d lt = description_at chunks c d (omega (arith, lt))
-
-place_there : (chunks : List ChunkAt) (c : ℕ) (d : ChunkAt) → c < length chunks → get_or (places_as chunks) c 0 ≡ (get_or chunks c d).place
-place_there [] c d lt = absurd (omega (arith, lt))
-place_there (x ∷ chunks) zero d lt = refl
-place_there (x ∷ chunks) (suc c) d lt = place_there chunks c d (omega (arith, lt))
-
--- a chunk that is kept is that of the tables
-pub record Kept (t : HeldTables) (chunks : List ChunkAt) (i c earlier : ℕ) (d : ChunkAt) : Type 0 where
-  pub chunk : IsChunkOf (counts_of (tables_view t)) i c
-  pub within : i - before (tables_view t) c ≡ earlier
-  pub since : before (tables_view t) c ≡ i - earlier
-  pub place : get_or t.places c 0 ≡ (get_or chunks c d).place
-  pub description : get_or (map (λ e. e.description) (chunks_of (tables_view t))) c 0 ≡ (get_or chunks c d).description
-
-pub kept : (t : HeldTables) (chunks : List ChunkAt) → Sound t chunks → (i c earlier : ℕ) (d : ChunkAt)
-    → IsChunkOf (counts_as chunks) i c → c < length chunks → sum (take c (counts_as chunks)) + earlier ≡ i → Kept t chunks i c earlier d
-kept t chunks sound i c earlier d is lt e =
-    let counts : counts_as chunks ≡ counts_of (tables_view t) = ap (λ (hs : List InChunk). map (λ h. h.per) hs) sound.held in
-    let sums : sum (take c (counts_as chunks)) ≡ before (tables_view t) c = ap (λ (ns : List ℕ). sum (take c ns)) counts in
-    record {
-      chunk = subst (λ (ns : List ℕ). IsChunkOf ns i c) counts is;
-      within = omega (arith, sums, e);
-      since = omega (arith, sums, e);
-      place = sym (get_or-take (length chunks) t.places c 0 lt) ∙ ap (λ (ps : List ℕ). get_or ps c 0) (sym sound.places) ∙ place_there chunks c d lt;
-      description = ap (λ (hs : List InChunk). get_or (map (λ h. h.description) hs) c 0) (sym sound.held) ∙ description_at chunks c d lt;
-    }
+-- ---- the chunk of a sample
 
 -- the chunks hold a sample
-pub chunks_reach : (t : HeldTables) (chunks : List ChunkAt) → Sound t chunks → (i : ℕ) → i < length (sizes_view t.sizes) → i < sum (counts_as chunks)
-chunks_reach t chunks sound i lt =
-    let counts : sum (counts_as chunks) ≡ sum (counts_of (tables_view t)) = ap (λ (hs : List InChunk). sum (map (λ h. h.per) hs)) sound.held in
-    omega (arith, counts, lt, enough sound.scale sound.entries (length (sizes_view t.sizes)) (tables_view t) sound.said)
+pub chunks_reach : (t : HeldTables) → Sound t → (i : ℕ) → i < length (sizes_view t.sizes) → i < sum (counts_in t.spreads (length t.places))
+chunks_reach t sound i lt =
+    omega (arith, lt, enough sound.scale sound.entries (length (sizes_view t.sizes)) (tables_view t) sound.said)
 
 -- the runs of deltas reach a sample
-pub times_reach : (t : HeldTables) (chunks : List ChunkAt) → Sound t chunks → (i : ℕ) → i < length (sizes_view t.sizes) → i < sum (counts_of_runs t.deltas)
-times_reach t chunks sound i lt =
+pub times_reach : (t : HeldTables) → Sound t → (i : ℕ) → i < length (sizes_view t.sizes) → i < sum (counts_of_runs t.deltas)
+times_reach t sound i lt =
     omega (arith, lt, length_expand t.deltas, timed sound.scale sound.entries (length (sizes_view t.sizes)) (tables_view t) sound.said)
 
+-- how many samples of its chunk come before a sample, and which one the chunk begins with
+since_chunk : (t : HeldTables) (i earlier : ℕ) (chunk : ChunkAt) (k : IsInChunk t.spreads t.places i earlier chunk)
+    → (i - before (tables_view t) k.c ≡ earlier) × (before (tables_view t) k.c ≡ i - earlier)
+since_chunk t i earlier chunk k = (omega (arith, k.before), omega (arith, k.before))
+
+-- a place that the tables say, by the chunk
+place_in : (t : HeldTables) (i earlier : ℕ) (chunk : ChunkAt) (k : IsInChunk t.spreads t.places i earlier chunk)
+    → get_or t.places k.c 0 + sum (take (i - before (tables_view t) k.c) (drop (before (tables_view t) k.c) (sizes_view t.sizes)))
+    ≡ chunk.place + sum (take earlier (drop (i - earlier) (sizes_view t.sizes)))
+place_in t i earlier chunk k =
+    let p = since_chunk t i earlier chunk k in
+    let sizes : List ℕ = sizes_view t.sizes in
+    ap (λ (m : ℕ). m + sum (take (i - before (tables_view t) k.c) (drop (before (tables_view t) k.c) sizes))) k.place
+    ∙ ap (λ (n : ℕ). chunk.place + sum (take n (drop (before (tables_view t) k.c) sizes))) p.0
+    ∙ ap (λ (n : ℕ). chunk.place + sum (take earlier (drop n sizes))) p.1
+
 -- a sample that has a place begins below 2 ^ 64
-pub place_fits : Law → (t : HeldTables) (chunks : List ChunkAt) → Sound t chunks → (i c earlier : ℕ) (d : ChunkAt)
-    → Kept t chunks i c earlier d → i < length (sizes_view t.sizes) → HasPlace (tables_view t) i
-    → (get_or chunks c d).place + sum (take earlier (drop (i - earlier) (sizes_view t.sizes))) < 2 ^ 64
-place_fits law t chunks sound i c earlier d k lt has =
-    let low = place_said law sound.scale sound.entries (tables_view t) sound.said i c lt has k.chunk in
-    let whole : get_or t.places c 0 + sum (take (i - before (tables_view t) c) (drop (before (tables_view t) c) (sizes_view t.sizes)))
-    ≡ (get_or chunks c d).place + sum (take earlier (drop (i - earlier) (sizes_view t.sizes))) =
-    ap (λ (p : ℕ). p + sum (take (i - before (tables_view t) c) (drop (before (tables_view t) c) (sizes_view t.sizes)))) k.place
-    ∙ ap (λ (n : ℕ). (get_or chunks c d).place + sum (take n (drop (before (tables_view t) c) (sizes_view t.sizes)))) k.within
-    ∙ ap (λ (n : ℕ). (get_or chunks c d).place + sum (take earlier (drop n (sizes_view t.sizes)))) k.since in
-    rw (← whole) low
+pub place_fits : Law → (t : HeldTables) → Sound t → (i earlier : ℕ) (chunk : ChunkAt) → IsInChunk t.spreads t.places i earlier chunk
+    → i < length (sizes_view t.sizes) → HasPlace (tables_view t) i → chunk.place + sum (take earlier (drop (i - earlier) (sizes_view t.sizes))) < 2 ^ 64
+place_fits law t sound i earlier chunk k lt has =
+    let low = place_said law sound.scale sound.entries (tables_view t) sound.said i k.c lt has k.is in
+    rw (← place_in t i earlier chunk k) low
 
 -- a sample that is put together from what the tables say is the listed one
-pub put_together : Law → (t : HeldTables) (chunks : List ChunkAt) → Sound t chunks → (i c earlier : ℕ) (d : ChunkAt)
-    → Kept t chunks i c earlier d → i < length (sizes_view t.sizes) → (a : PlainSample)
+pub put_together : Law → (t : HeldTables) → Sound t → (i earlier : ℕ) (chunk : ChunkAt) → IsInChunk t.spreads t.places i earlier chunk
+    → i < length (sizes_view t.sizes) → (a : PlainSample)
     → a.decode ≡ sum (take i (tables_view t).deltas)
     → a.compose ≡ pos a.decode +ℤ get_or (tables_view t).offsets i (pos 0)
     → a.sync ≡ is_sync t.sync (i + 1)
-    → a.place ≡ (get_or chunks c d).place + sum (take earlier (drop (i - earlier) (sizes_view t.sizes)))
+    → a.place ≡ chunk.place + sum (take earlier (drop (i - earlier) (sizes_view t.sizes)))
     → a.size ≡ get_or (sizes_view t.sizes) i 0
-    → a.description ≡ (get_or chunks c d).description
+    → a.description ≡ chunk.description
     → slice_get (listed (tables_view t)) i ≡ Some a
-put_together law t chunks sound i c earlier d k lt a decode compose sync place size description =
-    let sizes : List ℕ = sizes_view t.sizes in
-    said_is_listed law sound.scale sound.entries (tables_view t) sound.said i c a lt (record {
-      chunk = k.chunk;
-      place = place
-          ∙ sym (ap (λ (p : ℕ). p + sum (take earlier (drop (i - earlier) sizes))) k.place)
-          ∙ sym (ap (λ (n : ℕ). get_or t.places c 0 + sum (take n (drop (i - earlier) sizes))) k.within)
-          ∙ sym (ap (λ (n : ℕ). get_or t.places c 0 + sum (take (i - before (tables_view t) c) (drop n sizes))) k.since);
+put_together law t sound i earlier chunk k lt a decode compose sync place size description =
+    said_is_listed law sound.scale sound.entries (tables_view t) sound.said i k.c a lt (record {
+      chunk = k.is;
+      place = place ∙ sym (place_in t i earlier chunk k);
       size = size;
       decode = decode;
       compose = compose;
@@ -208,51 +177,36 @@ first_left [] (suc i) x ys e = absurd (cc e)
 first_left (z ∷ xs) zero x ys e = sym (cc e)
 first_left (z ∷ xs) (suc i) x ys e = first_left xs i x ys e
 
--- a sample that is listed has the place and the size that the tables say
-listed_there : Law → (t : HeldTables) (chunks : List ChunkAt) → Sound t chunks → (i c earlier : ℕ) (d : ChunkAt)
-    → Kept t chunks i c earlier d → i < length (sizes_view t.sizes)
-    → IsThere (listed (tables_view t)) i ((get_or chunks c d).place + sum (take earlier (drop (i - earlier) (sizes_view t.sizes)))) (get_or (sizes_view t.sizes) i 0)
-listed_there law t chunks sound i c earlier d k lt =
-    let l : Listed (tables_view t) i = is_listed law sound.scale sound.entries (tables_view t) sound.said i lt in
+-- an item that is more than 0 is there
+is_item : (xs : List ℕ) (c j : ℕ) → j < get_or xs c 0 → c < length xs
+is_item [] c j lt = absurd (omega (arith, lt))
+is_item (x ∷ xs) zero j lt = omega arith
+is_item (x ∷ xs) (suc c) j lt = omega (arith, is_item xs c j lt)
+
+-- the samples that are listed follow one another in the chunks
+pub in_chunks : Law → (t : HeldTables) → Sound t → AreInChunks (counts_in t.spreads (length t.places)) t.places (sizes_view t.sizes) (listed (tables_view t))
+in_chunks law t sound =
+    λ c j less.
+    let counts : List ℕ = counts_in t.spreads (length t.places) in
     let sizes : List ℕ = sizes_view t.sizes in
-    let same : l.c ≡ c = one_chunk (counts_of (tables_view t)) i l.c c l.is.chunk k.chunk in
-    let place : l.s.place ≡ get_or t.places c 0 + sum (take (i - before (tables_view t) c) (drop (before (tables_view t) c) sizes)) =
-    subst (λ (d : ℕ). l.s.place ≡ get_or t.places d 0 + sum (take (i - before (tables_view t) d) (drop (before (tables_view t) d) sizes))) same l.is.place in
+    let s : ℕ = sum (take c counts) in
+    let is : IsChunkOf counts (s + j) c = chunk_found counts (s + j) c j (is_item counts c j (omega (arith, less))) refl (omega (arith, less)) in
+    let l : Listed (tables_view t) (s + j) = is_listed law sound.scale sound.entries (tables_view t) sound.said (s + j) (omega (arith, less)) in
+    let same : l.c ≡ c = one_chunk counts (s + j) l.c c l.is.chunk is in
+    let place : l.s.place ≡ get_or t.places c 0 + sum (take (s + j - s) (drop s sizes)) =
+    subst (λ (d : ℕ). l.s.place ≡ get_or t.places d 0 + sum (take (s + j - before (tables_view t) d) (drop (before (tables_view t) d) sizes))) same l.is.place in
+    let since : s + j - s ≡ j = omega arith in
     record {
       s = l.s;
       at = l.at;
-      place = place
-          ∙ ap (λ (p : ℕ). p + sum (take (i - before (tables_view t) c) (drop (before (tables_view t) c) sizes))) k.place
-          ∙ ap (λ (n : ℕ). (get_or chunks c d).place + sum (take n (drop (before (tables_view t) c) sizes))) k.within
-          ∙ ap (λ (n : ℕ). (get_or chunks c d).place + sum (take earlier (drop n sizes))) k.since;
+      place = place ∙ ap (λ (n : ℕ). get_or t.places c 0 + sum (take n (drop s sizes))) since;
       size = l.is.size;
     }
 
--- the samples that are listed follow one another in the chunks
-pub in_chunks : Law → (t : HeldTables) (chunks : List ChunkAt) → Sound t chunks → AreInChunks chunks (sizes_view t.sizes) (listed (tables_view t))
-in_chunks law t chunks sound =
-    λ c d there j less.
-    let counts : List ℕ = counts_as chunks in
-    let sizes : List ℕ = sizes_view t.sizes in
-    let s : ℕ = sum (take c counts) in
-    let per : get_or counts c 0 ≡ (get_or chunks c d).per = count_at chunks c d there in
-    let is : IsChunkOf counts (s + j) c = chunk_found counts (s + j) c j (omega (arith, there, length-counts chunks)) refl (omega (arith, less, per)) in
-    let k = kept t chunks sound (s + j) c j d is there refl in
-    let h = listed_there law t chunks sound (s + j) c j d k (omega (arith, less)) in
-    let since : s + j - j ≡ s = omega arith in
-    record {
-      s = h.s;
-      at = h.at;
-      place = h.place ∙ ap (λ (n : ℕ). (get_or chunks c d).place + sum (take j (drop n sizes))) since;
-      size = h.size;
-    }
-
 -- the chunks hold all samples
-pub all_reached : (t : HeldTables) (chunks : List ChunkAt) → Sound t chunks → length (sizes_view t.sizes) ≤ sum (counts_as chunks)
-all_reached t chunks sound =
-    let counts : sum (counts_as chunks) ≡ sum (counts_of (tables_view t)) = ap (λ (hs : List InChunk). sum (map (λ h. h.per) hs)) sound.held in
-    omega (arith, counts, enough sound.scale sound.entries (length (sizes_view t.sizes)) (tables_view t) sound.said)
+pub all_reached : (t : HeldTables) → Sound t → length (sizes_view t.sizes) ≤ sum (counts_in t.spreads (length t.places))
+all_reached t sound = enough sound.scale sound.entries (length (sizes_view t.sizes)) (tables_view t) sound.said
 
 -- there are as many as sizes
-pub all_there : Law → (t : HeldTables) (chunks : List ChunkAt) → Sound t chunks → length (listed (tables_view t)) ≡ length (sizes_view t.sizes)
-all_there law t chunks sound = law.all sound.scale sound.entries (tables_view t) (listed (tables_view t)) (all_listed sound.scale sound.entries (tables_view t) sound.said)
+pub all_there : Law → (t : HeldTables) → Sound t → length (listed (tables_view t)) ≡ length (sizes_view t.sizes)
+all_there law t sound = law.all sound.scale sound.entries (tables_view t) (listed (tables_view t)) (all_listed sound.scale sound.entries (tables_view t) sound.said)

@@ -7,14 +7,15 @@ ghost use Rattle.sf_meaning.specs.Tracks.{held_in};
 ghost use Rattle.sf_cursor.specs.Cursor.{tables_in, HasPlace};
 
 use crate::boxes::table_boxes;
+use crate::chunks::{chunk_of, chunk_starts};
 use crate::held::chunks_held;
-use crate::look_up::{chunk_of, compose_at, is_sync, offset_at, place_at};
-use crate::starts::{chunk_starts, run_starts};
+use crate::look_up::{compose_at, is_sync, offset_at, place_at};
+use crate::starts::run_starts;
 use crate::sums::block_sums;
 use crate::ticks::{decode_at, run_ticks};
 use sf_list::Items;
 use sf_meaning::{
-    ChunkAt, MovieFault, PlainSample, TableFault, Tables, chunks_of, count_of, samples_one_by_one,
+    MovieFault, PlainSample, TableFault, Tables, chunks_of, count_of, samples_one_by_one,
     say_samples, size_at, tables_told,
 };
 use std::alloc::Global;
@@ -24,14 +25,13 @@ use std::marker::Model;
 #[derive(Drop)]
 pub struct Cursor {
     tables: Tables,
-    chunks: Items<ChunkAt>,
     /// How many samples come before each run of deltas.
     time_starts: Items<u32>,
     /// How long they last, in ticks.
     ticks: Items<u64>,
     /// How many samples come before each run of composition offsets.
     offset_starts: Items<u32>,
-    /// How many samples come before each chunk.
+    /// How many samples come before the first chunk of each entry of the sample-to-chunk box.
     chunk_starts: Items<u32>,
     /// How many bytes the samples before every sixteenth one take.
     sums: Items<u64>,
@@ -46,7 +46,7 @@ impl Model for Cursor {
 
     ghost view = { λ c. tables_view c.tables };
 
-    ghost invariant = { λ c. Indexed c.tables c.chunks c.time_starts c.ticks c.offset_starts c.chunk_starts c.sums };
+    ghost invariant = { λ c. Indexed c.tables c.time_starts c.ticks c.offset_starts c.chunk_starts c.sums };
 }
 
 impl Cursor {
@@ -72,11 +72,14 @@ impl Cursor {
         let time_starts = run_starts(alloc, tables.deltas.as_slice())?;
         let ticks = run_ticks(alloc, tables.deltas.as_slice())?;
         let offset_starts = run_starts(alloc, tables.offsets.as_slice())?;
-        let chunk_starts = chunk_starts(alloc, &chunks)?;
+        let chunk_starts = chunk_starts(
+            alloc,
+            tables.spreads.as_slice(),
+            tables.places.len() as u32,
+        )?;
         let sums = block_sums(alloc, &tables.sizes)?;
         Ok(Cursor {
             tables,
-            chunks: Items::from_vec(chunks),
             time_starts,
             ticks,
             offset_starts,
@@ -101,7 +104,14 @@ impl Cursor {
         ensures places { OnOk result ((i : ℕ) → HasPlace self.now i) }
     {
         samples_one_by_one();
-        chunks_held(self.chunks.as_slice(), &self.tables.sizes, track, bytes)
+        let tables = &self.tables;
+        chunks_held(
+            tables.spreads.as_slice(),
+            tables.places.as_slice(),
+            &tables.sizes,
+            track,
+            bytes,
+        )
     }
 
     /// A sample by its number, from 0. It takes no memory.
@@ -114,9 +124,13 @@ impl Cursor {
     {
         samples_one_by_one();
         let tables = &self.tables;
-        let chunks = self.chunks.as_slice();
         let i = i as u32;
-        let (c, earlier) = chunk_of(chunks, self.chunk_starts.as_slice(), i);
+        let (chunk, earlier) = chunk_of(
+            tables.spreads.as_slice(),
+            self.chunk_starts.as_slice(),
+            tables.places.as_slice(),
+            i,
+        );
         let decode = decode_at(
             tables.deltas.as_slice(),
             self.time_starts.as_slice(),
@@ -134,14 +148,14 @@ impl Cursor {
             compose: compose_at(decode, offset),
             sync: is_sync(&tables.sync, i + 1),
             place: place_at(
-                chunks[c].place,
+                chunk.place,
                 &tables.sizes,
                 self.sums.as_slice(),
                 i - earlier,
                 earlier,
             ),
             size: size_at(&tables.sizes, i),
-            description: chunks[c].description,
+            description: chunk.description,
         }
     }
 }

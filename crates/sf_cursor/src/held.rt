@@ -1,13 +1,15 @@
 //! Whether a file holds the samples of a track, one after the other.
 
-ghost use Rattle.std.specs.Prelude.{◌≡◌, ◌+◌, ◌*◌, ◌≤◌, true, length, drop, sum, List, OnOk, IfOk, IfErr, Ok, Err};
-ghost use Rattle.sf_meaning.specs.ReadTables.{sizes_view};
+ghost use Rattle.std.specs.Prelude.{◌≡◌, ◌+◌, ◌*◌, ◌^◌, ◌<◌, ◌≤◌, true, length, drop, sum, List, OnOk, IfOk, IfErr, Ok, Err};
+ghost use Rattle.sf_meaning.specs.ReadTables.{sizes_view, spreads_as};
+ghost use Rattle.sf_meaning.specs.SampleTables.{begins_rising};
 ghost use Rattle.sf_meaning.specs.Tracks.{held_in};
 ghost use Rattle.sf_meaning.specs.declared.movie.PlainSample.{PlainSample};
 ghost use Rattle.sf_cursor.specs.inner.Held.{AreInChunk, AreInChunks, ends_held};
-ghost use Rattle.sf_cursor.specs.inner.Sound.{counts_as};
+ghost use Rattle.sf_cursor.specs.inner.Sound.{counts_in};
 
-use sf_meaning::{ChunkAt, MovieFault, Sizes, count_of, size_at};
+use crate::chunks::run_of;
+use sf_meaning::{ChunkRun, MovieFault, Sizes, count_of, size_at};
 
 /// How many bytes a sample may have.
 const GREATEST_SAMPLE: u32 = 67_108_864;
@@ -98,22 +100,32 @@ fn chunk_held(
     each_held(place, sizes, from, count, track, bytes)
 }
 
-/// A file of so many bytes holds the samples of chunks, which have these sizes, and none is too long.
+/// A file of so many bytes holds the samples of chunks at these places, which have these sizes, and none
+/// is too long.
 pub(crate) fn chunks_held(
-    chunks: &[ChunkAt],
+    runs: &[ChunkRun],
+    places: &[u64],
     sizes: &Sizes,
     track: u32,
     bytes: u64,
 ) -> Result<(), MovieFault>
+    requires order { begins_rising (spreads_as runs.now) ≡ true }
+    requires many { length places.now < 2 ^ 32 }
     requires few { length (sizes_view sizes.now) ≤ 16777216 }
-    requires reach { length (sizes_view sizes.now) ≤ sum (counts_as chunks.now) }
-    ensures { (ss : List PlainSample) → length ss ≡ length (sizes_view sizes.now) → AreInChunks chunks.now (sizes_view sizes.now) ss → result ≡ held_in bytes track 0 ss }
+    requires reach { length (sizes_view sizes.now) ≤ sum (counts_in runs.now (length places.now)) }
+    ensures { (ss : List PlainSample) → length ss ≡ length (sizes_view sizes.now)
+        → AreInChunks (counts_in runs.now (length places.now)) places.now (sizes_view sizes.now) ss → result ≡ held_in bytes track 0 ss }
 {
+    if runs.is_empty() {
+        return Ok(());
+    }
     let count = count_of(sizes);
     let mut from = 0u32;
-    for chunk in chunks {
-        let some = chunk.per.min(count - from);
-        match chunk_held(chunk.place, sizes, from, some, track, bytes) {
+    let mut r = 0usize;
+    for c in 0..places.len() {
+        r = run_of(runs, r, c as u32);
+        let some = runs[r].per.min(count - from);
+        match chunk_held(places[c], sizes, from, some, track, bytes) {
             Ok(()) => from += some,
             Err(fault) => return Err(fault),
         }

@@ -8,6 +8,7 @@
 #![tactic(auto)]
 
 mod boxes;
+mod chunks;
 mod cursor;
 mod held;
 mod look_up;

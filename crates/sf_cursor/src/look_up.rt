@@ -3,14 +3,13 @@
 ghost use Rattle.std.specs.Prelude.{◌≡◌, pos, neg_ℤ, ◌+ℤ◌, ◌≤ℤ◌, ◌<ℤ◌, ◌+◌, ◌-◌, ◌*◌, ◌^◌, ◌<◌, ◌≤◌, length, take, drop, map, sum, get_or, slice_get};
 ghost use Rattle.sf_meaning.specs.ReadTables.{time_runs, sizes_view};
 ghost use Rattle.sf_meaning.specs.inner.Entries.{Rises};
-ghost use Rattle.sf_meaning.specs.SampleAt.{IsChunkOf};
 ghost use Rattle.sf_meaning.specs.Tables.{expand, offset_in, is_sync};
-ghost use Rattle.sf_cursor.specs.inner.Sound.{AreStarts, HaveSums, counts_as, counts_of_runs};
+ghost use Rattle.sf_cursor.specs.inner.Sound.{AreStarts, HaveSums, counts_of_runs};
 
 use crate::starts::last_begun;
 use crate::sums::bytes_of;
 use sf_list::Items;
-use sf_meaning::{ChunkAt, Sizes, TimeRun, offset_in};
+use sf_meaning::{Sizes, TimeRun, offset_in};
 
 /// The value that runs give a sample, if they reach it. Samples count from 0.
 pub(crate) fn value_at(runs: &[TimeRun], starts: &[u32], i: u32) -> Option<u32>
@@ -63,19 +62,6 @@ pub(crate) fn is_sync(sync: &Option<Items<u32>>, number: u32) -> bool
         None => true,
         Some(numbers) => numbers.as_slice().binary_search(&number).is_ok(),
     }
-}
-
-/// The chunk of a sample, and how many samples of the chunk come before it.
-pub(crate) fn chunk_of(chunks: &[ChunkAt], starts: &[u32], i: u32) -> (usize, u32)
-    requires starts { AreStarts (counts_as chunks.now) starts.now }
-    requires few { i < 4294967295 }
-    requires reach { i < sum (counts_as chunks.now) }
-    ensures chunk { IsChunkOf (counts_as chunks.now) i result.0 }
-    ensures there { result.0 < length chunks.now }
-    ensures before { sum (take result.0 (counts_as chunks.now)) + result.1 ≡ i }
-{
-    let c = last_begun(starts, i);
-    (c, i - starts[c])
 }
 
 /// Where a sample begins in a chunk that begins at a place, after so many samples of the chunk, from one on.

@@ -1,11 +1,11 @@
-//! How many samples come before each run and before each chunk, so that the one of a sample is found without a walk.
+//! How many samples come before each run, so that the one of a sample is found without a walk.
 
 ghost use Rattle.std.specs.Prelude.{◌≡◌, ℕ, ◌+◌, ◌<◌, ◌≤◌, length, get_or, IfOk};
 ghost use Rattle.std.specs.List.Sorted.{IsNonDecreasingBy};
-ghost use Rattle.sf_cursor.specs.inner.Sound.{AreStarts, counts_as, counts_of_runs};
+ghost use Rattle.sf_cursor.specs.inner.Sound.{AreStarts, counts_of_runs};
 
 use sf_list::Items;
-use sf_meaning::{ChunkAt, TimeRun};
+use sf_meaning::TimeRun;
 use std::alloc::{AllocError, Global};
 
 /// How many samples come before each run, or 2^32 - 1 where there are more.
@@ -17,19 +17,6 @@ pub(crate) fn run_starts(alloc: Global, runs: &[TimeRun]) -> Result<Items<u32>, 
     for run in runs {
         starts.push(total)?;
         total = total.saturating_add(run.count);
-    }
-    Ok(starts)
-}
-
-/// How many samples come before each chunk, or 2^32 - 1 where there are more.
-pub(crate) fn chunk_starts(alloc: Global, chunks: &[ChunkAt]) -> Result<Items<u32>, AllocError>
-    ensures { IfOk result (λ starts. AreStarts (counts_as chunks.now) starts) }
-{
-    let mut starts = Items::new(alloc);
-    let mut total = 0u32;
-    for chunk in chunks {
-        starts.push(total)?;
-        total = total.saturating_add(chunk.per);
     }
     Ok(starts)
 }

@@ -3,10 +3,8 @@ use Rattle.std.specs.Prelude.{◌≡◌, ℕ, ◌+◌, ◌-◌, ◌<◌, nat_le,
 use Rattle.std.specs.List.{slice_get}
 use Rattle.sf_meaning.specs.Steps.{◌>>◌, check}
 use Rattle.sf_meaning.specs.Tracks.{Step}
-use Rattle.sf_meaning.specs.declared.entries.ChunkAt.{ChunkAt}
 use Rattle.sf_meaning.specs.declared.faults.MovieFault.TheVariants.{SampleOutside, SampleTooLarge}
 use Rattle.sf_meaning.specs.declared.movie.PlainSample.{PlainSample}
-use Rattle.sf_cursor.specs.inner.Sound.{counts_as}
 
 -- a sample of a track at a place lies in a file of so many bytes, and isn't too long
 abbrev pub ends_held : ℕ → ℕ → ℕ → ℕ → ℕ → Step (Unit {0})
@@ -25,8 +23,7 @@ pub record IsThere (ss : List PlainSample) (i at_place of_size : ℕ) : Type 0 w
 abbrev pub AreInChunk : ℕ → List ℕ → ℕ → ℕ → List PlainSample → Type 0
 AreInChunk place sizes from count ss = (j : ℕ) → j < count → IsThere ss (from + j) (place + sum (take j (drop from sizes))) (get_or sizes (from + j) 0)
 
--- so do those of each chunk
-abbrev pub AreInChunks : List ChunkAt → List ℕ → List PlainSample → Type 0
-AreInChunks chunks sizes ss =
-    (c : ℕ) (d : ChunkAt) → c < length chunks
-    → AreInChunk (get_or chunks c d).place sizes (sum (take c (counts_as chunks))) (min (get_or chunks c d).per (length sizes - sum (take c (counts_as chunks)))) ss
+-- so do those of each chunk, where the chunks have so many samples and begin at these places
+abbrev pub AreInChunks : List ℕ → List ℕ → List ℕ → List PlainSample → Type 0
+AreInChunks counts places sizes ss =
+    (c : ℕ) → AreInChunk (get_or places c 0) sizes (sum (take c counts)) (min (get_or counts c 0) (length sizes - sum (take c counts))) ss

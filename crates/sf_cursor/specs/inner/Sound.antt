@@ -1,28 +1,48 @@
--- What holds of the tables and the chunks that a cursor keeps.
-use Rattle.std.specs.Prelude.{◌≡◌, ℕ, ◌+◌, ◌*◌, ◌/◌, ◌^◌, ◌<◌, ◌≤◌, min, List, length, take, map, sum, get_or, Ok}
-use Rattle.sf_meaning.specs.inner.Entries.{held_as_listed, places_as}
+-- What holds of the tables that a cursor keeps.
+use Rattle.std.specs.Prelude.{◌≡◌, ℕ, ◌+◌, ◌-◌, ◌*◌, ◌/◌, ◌^◌, ◌<◌, ◌≤◌, min, List, length, take, map, sum, get_or, Ok}
 use Rattle.sf_meaning.specs.inner.TrackTables.{IsInOrder, tables_view}
-use Rattle.sf_meaning.specs.ReadTables.{sizes_view, time_runs}
-use Rattle.sf_meaning.specs.Tables.{expand}
-use Rattle.sf_meaning.specs.TrackSamples.{chunks_of, samples_said}
+use Rattle.sf_meaning.specs.ReadTables.{sizes_view, spreads_as, time_runs}
+use Rattle.sf_meaning.specs.SampleAt.{IsChunkOf}
+use Rattle.sf_meaning.specs.Tables.{chunk_entries, expand}
+use Rattle.sf_meaning.specs.TrackSamples.{samples_said}
 use Rattle.sf_meaning.specs.declared.entries.ChunkAt.{ChunkAt}
+use Rattle.sf_meaning.specs.declared.entries.ChunkRun.{ChunkRun}
 use Rattle.sf_meaning.specs.declared.entries.TimeRun.{TimeRun}
 use Rattle.sf_meaning.specs.declared.sizes.Sizes.{Sizes}
 use Rattle.sf_meaning.specs.declared.sizes.Sizes.TheVariants.{Same, Each}
 use Rattle.sf_meaning.specs.declared.track_tables.Tables.{Tables as HeldTables}
 
--- how many samples the chunks have
-abbrev pub counts_as : List ChunkAt → List ℕ
-counts_as chunks = map (λ c. c.per) (held_as_listed chunks)
+-- how many samples each of so many chunks has, by the entries of the sample-to-chunk box
+abbrev pub counts_in : List ChunkRun → ℕ → List ℕ
+counts_in runs chunks = map (λ c. c.per) (chunk_entries (spreads_as runs) chunks)
 
--- The chunks are those of the tables, each at its place, and the tables say each sample, of a track of some timescale and some entries.
-pub record Sound (t : HeldTables) (chunks : List ChunkAt) : Type 0 where
+-- The tables say each sample, of a track of some timescale and some entries.
+pub record Sound (t : HeldTables) : Type 0 where
   pub order : IsInOrder t
-  pub held : held_as_listed chunks ≡ chunks_of (tables_view t)
-  pub places : places_as chunks ≡ take (length chunks) t.places
   pub scale : ℕ
   pub entries : ℕ
   pub said : samples_said scale entries (length (sizes_view t.sizes)) (tables_view t) ≡ Ok tt
+
+-- what stands for an entry that isn't there
+abbrev pub no_run : ChunkRun
+no_run = record { first = 0; per = 0; description = 0 }
+
+-- an entry holds from its first chunk up to the next entry's. Chunks count from 0.
+pub record HoldsFor (runs : List ChunkRun) (r c : ℕ) : Type 0 where
+  pub there : r < length runs
+  pub begun : (get_or runs r no_run).first ≤ c + 1
+  pub next : r + 1 < length runs → c + 1 < (get_or runs (r + 1) no_run).first
+
+-- it holds for a chunk, or for the one before it
+pub record HoldsUpTo (runs : List ChunkRun) (r c : ℕ) : Type 0 where
+  pub there : r < length runs
+  pub begun : (get_or runs r no_run).first ≤ c + 1
+  pub next : r + 1 < length runs → c < (get_or runs (r + 1) no_run).first
+
+-- how many samples come before the first chunk of each entry, of so many chunks, or 2 ^ 32 - 1 where there are more
+pub record AreChunkStarts (runs : List ChunkRun) (chunks : ℕ) (starts : List ℕ) : Type 0 where
+  pub long : length starts ≡ length runs
+  pub at : (r : ℕ) → r < length starts → get_or starts r 0 ≡ min (sum (take ((get_or runs r no_run).first - 1) (counts_in runs chunks))) 4294967295
 
 -- how many samples the runs have
 abbrev pub counts_of_runs : List TimeRun → List ℕ
@@ -39,6 +59,14 @@ pub record AreTicks (runs : List TimeRun) (ticks : List ℕ) : Type 0 where
   pub at : (k : ℕ) → k < length ticks → get_or ticks k 0 ≡ sum (take (min (sum (take k (counts_of_runs runs))) 16777216) (expand (time_runs runs)))
   pub bound : (k : ℕ) → k < length ticks → get_or ticks k 0 ≤ 16777216 * 2 ^ 32
 
+-- Sample i is in a chunk, after so many samples of it.
+pub record IsInChunk (runs : List ChunkRun) (places : List ℕ) (i earlier : ℕ) (chunk : ChunkAt) : Type 0 where
+  pub c : ℕ
+  pub is : IsChunkOf (counts_in runs (length places)) i c
+  pub before : sum (take c (counts_in runs (length places))) + earlier ≡ i
+  pub place : get_or places c 0 ≡ chunk.place
+  pub description : get_or (map (λ e. e.description) (chunk_entries (spreads_as runs) (length places))) c 0 ≡ chunk.description
+
 -- how many bytes the samples before every sixteenth one take
 pub record AreSums (sizes sums : List ℕ) : Type 0 where
   pub long : length sums ≡ length sizes / 16 + 1
@@ -50,12 +78,12 @@ abbrev pub HaveSums : Sizes → List ℕ → Type 0
 HaveSums (Same size count) sums = Unit {0}
 HaveSums (Each sizes) sums = AreSums sizes sums
 
--- The tables and chunks of a cursor, with how many samples come before each run of deltas, how long they last, and how many samples
--- come before each run of composition offsets and before each chunk, and how many bytes those before every sixteenth one take.
-pub record Indexed (t : HeldTables) (chunks : List ChunkAt) (time_starts ticks offset_starts chunk_starts sums : List ℕ) : Type 0 where
-  pub sound : Sound t chunks
+-- The tables of a cursor, with how many samples come before each run of deltas, how long they last, and how many samples come before
+-- each run of composition offsets and before the first chunk of each entry, and how many bytes those before every sixteenth one take.
+pub record Indexed (t : HeldTables) (time_starts ticks offset_starts chunk_starts sums : List ℕ) : Type 0 where
+  pub sound : Sound t
   pub times : AreStarts (counts_of_runs t.deltas) time_starts
   pub lasting : AreTicks t.deltas ticks
   pub offsets : AreStarts (counts_of_runs t.offsets) offset_starts
-  pub starts : AreStarts (counts_as chunks) chunk_starts
+  pub starts : AreChunkStarts t.spreads (length t.places) chunk_starts
   pub sizes : HaveSums t.sizes sums
