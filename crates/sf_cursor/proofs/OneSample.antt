@@ -1,5 +1,5 @@
 -- The sample that the tables of a cursor list under a number.
-use Rattle.std.proofs.Common.{◌≡◌, ℕ, zero, suc, ℤ, pos, ◌+ℤ◌, ◌+◌, ◌-◌, ◌^◌, ◌<◌, ◌≤◌, nat_le, Bool, true, false, List, [], ◌∷◌, length, take, drop, map, sum, get_or, Some, Result, Ok, refl, sym, ap, ◌∙◌, subst, arith}
+use Rattle.std.proofs.Common.{◌≡◌, ℕ, zero, suc, ℤ, pos, ◌+ℤ◌, ◌+◌, ◌-◌, ◌^◌, ◌<◌, ◌≤◌, nat_le, Bool, true, false, List, [], ◌∷◌, length, take, drop, sum, get_or, Some, Result, Ok, refl, sym, ap, ◌∙◌, subst, arith}
 use Rattle.std.specs.List.{slice_get}
 use Rattle.std.proofs.lemmas.Bool.{leb-true}
 use Rattle.sf_meaning.specs.Steps.{◌>>◌, check}
@@ -7,7 +7,7 @@ use Rattle.sf_meaning.specs.inner.TrackTables.{tables_view}
 use Rattle.sf_meaning.specs.Tables.{is_sync}
 use Rattle.sf_meaning.specs.ReadTables.{sizes_view}
 use Rattle.sf_meaning.specs.SampleAt.{IsChunkOf, IsSampleAt, before}
-use Rattle.sf_meaning.specs.TrackSamples.{Tables, chunks_of, counts_of, listed, samples_said, samples_in}
+use Rattle.sf_meaning.specs.TrackSamples.{Tables, counts_of, listed, samples_said, samples_in}
 use Rattle.sf_meaning.specs.declared.entries.ChunkAt.{ChunkAt}
 use Rattle.sf_meaning.specs.declared.movie.PlainSample.{PlainSample}
 use Rattle.sf_meaning.specs.declared.track_tables.Tables.{Tables as HeldTables}

@@ -1,12 +1,13 @@
 -- How long the first samples of runs last.
-use Rattle.std.proofs.Common.{◌≡◌, ℕ, zero, suc, ◌+◌, ◌-◌, ◌*◌, ◌<◌, ◌≤◌, min, List, [], ◌∷◌, ◌++◌, length, take, sum, get_or, replicate, refl, sym, ap, ◌∙◌, arith}
-use Rattle.std.proofs.lemmas.List.{length-append, length-replicate}
-use Rattle.std.proofs.lemmas.List.Sums.{sum_by-cons, sum_by-append}
+use Rattle.std.proofs.Common.{◌≡◌, ℕ, zero, suc, ◌+◌, ◌-◌, ◌*◌, ◌^◌, ◌<◌, ◌≤◌, min, List, [], ◌∷◌, ◌++◌, length, take, sum, get_or, replicate, refl, sym, ap, ◌∙◌, arith}
+use Rattle.std.proofs.lemmas.List.{length-append, length-map, length-replicate}
+use Rattle.std.proofs.lemmas.List.Sums.{sum_by-cons, sum_by-append, sum_by_more}
 use Rattle.sf_meaning.specs.ReadTables.{time_runs}
 use Rattle.sf_meaning.specs.Tables.{expand}
 use Rattle.sf_meaning.specs.declared.entries.TimeRun.{TimeRun}
-use Rattle.sf_cursor.specs.inner.Sound.{counts_of_runs}
-use Rattle.sf_cursor.proofs.RunValues.{sum-replicate}
+use Rattle.sf_cursor.specs.inner.Sound.{Lasts, counts_of_runs}
+use Rattle.sf_cursor.specs.declared.ticks.Lasting.{Lasting}
+use Rattle.sf_cursor.proofs.RunValues.{run_count_at, sum-replicate}
 
 -- the runs have as many samples as they count
 pub length_expand : (runs : List TimeRun) → length (expand (time_runs runs)) ≡ sum (counts_of_runs runs)
@@ -81,3 +82,22 @@ ticks_step runs k (suc l) d lt few e =
     ap (λ (n : ℕ). sum (take n (expand (time_runs runs)))) next
     ∙ sum_to runs k some d lt le
     ∙ sym (ap (λ (n : ℕ). sum (take n (expand (time_runs runs))) + some * (get_or runs k d).delta) here)
+
+-- one run further
+pub one_more_run : (runs : List TimeRun) (k : ℕ) (d : TimeRun) (l m : Lasting) → k < length runs → Lasts runs k l
+    → m.left ≡ l.left - min l.left (get_or runs k d).count → m.ticks ≡ l.ticks + min l.left (get_or runs k d).count * (get_or runs k d).delta
+    → m.ticks ≤ (16777216 - m.left) * 2 ^ 32 → Lasts runs (k + 1) m
+one_more_run runs k d l m lt is left ticks bound =
+    let counts : List ℕ = counts_of_runs runs in
+    let some : ℕ = min l.left (get_or runs k d).count in
+    let per : get_or counts k 0 ≡ (get_or runs k d).count = run_count_at runs k d lt in
+    let more : sum (take (k + 1) counts) ≡ sum (take k counts) + get_or counts k 0 =
+    sum_by_more (λ (x : ℕ). x) counts k 0 (omega (arith, lt, length-map runs (λ (r : TimeRun). r.count))) in
+    let step = ticks_step runs k l.left d lt is.few is.counted in
+    record {
+      few = omega (arith, left, is.few);
+      counted = omega (arith, left, more, per, is.counted, is.few);
+      ticks = ticks ∙ ap (λ (n : ℕ). n + some * (get_or runs k d).delta) is.ticks ∙ sym step
+          ∙ sym (ap (λ (n : ℕ). sum (take (16777216 - n) (expand (time_runs runs)))) left);
+      bound = bound;
+    }

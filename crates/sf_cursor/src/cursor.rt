@@ -2,12 +2,15 @@
 
 ghost use Rattle.std.specs.Prelude.{◌≡◌, ℕ, OnOk, pos, neg_ℤ, ◌≤ℤ◌, ◌<ℤ◌, ◌+◌, ◌^◌, ◌<◌, length, slice_get, Some};
 ghost use Rattle.sf_meaning.specs.Answers.{Gives};
-ghost use Rattle.sf_meaning.specs.TrackSamples.{listed};
+ghost use Rattle.sf_meaning.specs.ReadTables.{sizes_view};
+ghost use Rattle.sf_meaning.specs.TrackSamples.{listed, samples_said};
+ghost use Rattle.sf_meaning.specs.inner.TrackTables.{IsInOrder, tables_view};
 ghost use Rattle.sf_meaning.specs.Tracks.{held_in};
 ghost use Rattle.sf_cursor.specs.Cursor.{tables_in, HasPlace};
 
 use crate::boxes::table_boxes;
 use crate::chunks::{chunk_of, chunk_starts};
+use crate::exact::{exact, exact_tables};
 use crate::held::chunks_held;
 use crate::look_up::{compose_at, is_sync, offset_at, place_at};
 use crate::starts::run_starts;
@@ -20,6 +23,17 @@ use sf_meaning::{
 };
 use std::alloc::Global;
 use std::marker::Model;
+
+// The tables say each of their samples, of a track with a timescale and so many sample entries. The list of
+// the chunks is given back at once.
+fn all_said(alloc: Global, scale: u32, entries: u32, tables: &Tables) -> Result<(), TableFault>
+    requires { IsInOrder tables.now }
+    ensures { Gives TableFault.NoMemory (λ _. tt) result (samples_said scale entries (length (sizes_view tables.now.sizes)) (tables_view tables.now)) }
+{
+    let chunks = chunks_of(alloc, tables)?;
+    let count = count_of(&tables.sizes);
+    say_samples(scale, u64::from(entries), count, tables, &chunks)
+}
 
 /// The samples that a sample table box says. It keeps the tables, and never a list of the samples.
 #[derive(Drop)]
@@ -65,10 +79,8 @@ impl Cursor {
         ensures { Gives TableFault.NoMemory (λ cursor. cursor) result (tables_in base scale entries stbl.now) }
     {
         let boxes = table_boxes(alloc, stbl, base)?;
-        let tables = tables_told(alloc, base, boxes.as_slice())?;
-        let chunks = chunks_of(alloc, &tables)?;
-        let count = count_of(&tables.sizes);
-        say_samples(scale, u64::from(entries), count, &tables, &chunks)?;
+        let tables = exact_tables(tables_told(alloc, base, boxes.as_slice())?);
+        all_said(alloc, scale, entries, &tables)?;
         let time_starts = run_starts(alloc, tables.deltas.as_slice())?;
         let ticks = run_ticks(alloc, tables.deltas.as_slice())?;
         let offset_starts = run_starts(alloc, tables.offsets.as_slice())?;
@@ -80,11 +92,11 @@ impl Cursor {
         let sums = block_sums(alloc, &tables.sizes)?;
         Ok(Cursor {
             tables,
-            time_starts,
-            ticks,
-            offset_starts,
-            chunk_starts,
-            sums,
+            time_starts: exact(time_starts),
+            ticks: exact(ticks),
+            offset_starts: exact(offset_starts),
+            chunk_starts: exact(chunk_starts),
+            sums: exact(sums),
         })
     }
 

@@ -10,6 +10,7 @@
 mod boxes;
 mod chunks;
 mod cursor;
+mod exact;
 mod held;
 mod look_up;
 mod starts;

@@ -11,6 +11,7 @@ use Rattle.sf_meaning.specs.declared.entries.TimeRun.{TimeRun}
 use Rattle.sf_meaning.specs.declared.sizes.Sizes.{Sizes}
 use Rattle.sf_meaning.specs.declared.sizes.Sizes.TheVariants.{Same, Each}
 use Rattle.sf_meaning.specs.declared.track_tables.Tables.{Tables as HeldTables}
+use Rattle.sf_cursor.specs.declared.ticks.Lasting.{Lasting}
 
 -- how many samples each of so many chunks has, by the entries of the sample-to-chunk box
 abbrev pub counts_in : List ChunkRun → ℕ → List ℕ
@@ -53,11 +54,18 @@ pub record AreStarts (counts starts : List ℕ) : Type 0 where
   pub long : length starts ≡ length counts
   pub at : (k : ℕ) → k < length starts → get_or starts k 0 ≡ min (sum (take k counts)) 4294967295
 
--- how long the samples before each run last, in ticks, of the first 2 ^ 24 samples
+-- how long the samples before a run last, in ticks, of the first 2 ^ 24 samples, of which so many are left
+pub record Lasts (runs : List TimeRun) (k : ℕ) (l : Lasting) : Type 0 where
+  pub few : l.left ≤ 16777216
+  pub counted : min (sum (take k (counts_of_runs runs))) 16777216 ≡ 16777216 - l.left
+  pub ticks : l.ticks ≡ sum (take (16777216 - l.left) (expand (time_runs runs)))
+  pub bound : l.ticks ≤ (16777216 - l.left) * 2 ^ 32
+
+-- how long the samples before every sixteenth run last, in ticks, of the first 2 ^ 24 samples
 pub record AreTicks (runs : List TimeRun) (ticks : List ℕ) : Type 0 where
-  pub long : length ticks ≡ length runs
-  pub at : (k : ℕ) → k < length ticks → get_or ticks k 0 ≡ sum (take (min (sum (take k (counts_of_runs runs))) 16777216) (expand (time_runs runs)))
-  pub bound : (k : ℕ) → k < length ticks → get_or ticks k 0 ≤ 16777216 * 2 ^ 32
+  pub long : length ticks ≡ length runs / 16 + 1
+  pub at : (b : ℕ) → b < length ticks → get_or ticks b 0 ≡ sum (take (min (sum (take (16 * b) (counts_of_runs runs))) 16777216) (expand (time_runs runs)))
+  pub bound : (b : ℕ) → b < length ticks → get_or ticks b 0 ≤ min (sum (take (16 * b) (counts_of_runs runs))) 16777216 * 2 ^ 32
 
 -- Sample i is in a chunk, after so many samples of it.
 pub record IsInChunk (runs : List ChunkRun) (places : List ℕ) (i earlier : ℕ) (chunk : ChunkAt) : Type 0 where

@@ -1,4 +1,4 @@
-use Rattle.std.proofs.Common.{◌≡◌, ℕ, ◌+◌, ◌-◌, ◌/◌, ◌<◌, length, get_or, refl, arith}
+use Rattle.std.proofs.Common.{◌+◌, ◌-◌, ◌/◌, length, get_or, refl, arith}
 use Rattle.sf_cursor.specs.inner.Sound.{no_run}
 use Rattle.sf_cursor.proofs.RunChunks.{InEntry, least_first}
 use Rattle.sf_cursor.proofs.ChunkStarts.{chunk_starts_rise, entry_found}

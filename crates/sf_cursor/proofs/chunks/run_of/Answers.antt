@@ -1,4 +1,4 @@
-use Rattle.std.proofs.Common.{◌≡◌, ◌+◌, ◌<◌, length, get_or, arith}
+use Rattle.std.proofs.Common.{◌≡◌, ◌+◌, get_or, arith}
 use Rattle.sf_cursor.specs.inner.Sound.{no_run}
 use Rattle.sf_cursor.proofs.RunChunks.{next_first}
 use Rattle.sf_cursor.proofs.chunks.run_of.Goals as goal

@@ -1,4 +1,4 @@
-use Rattle.std.proofs.Common.{◌≡◌, ℕ, List, length, OnOk, subst}
+use Rattle.std.proofs.Common.{◌≡◌, ℕ, length, OnOk, subst}
 use Rattle.sf_meaning.specs.inner.TrackTables.{tables_view}
 use Rattle.sf_meaning.specs.ReadTables.{sizes_view}
 use Rattle.sf_meaning.specs.TrackSamples.{Tables, listed}
