@@ -1,5 +1,9 @@
 mod SeatLemmas
 mod SyncLemmas
+mod BestLemmas
+mod OrderLemmas
+mod NumberLemmas
+mod SoughtLemmas
 mod HandedLemmas
 mod WordLemmas
 mod TimeLemmas

@@ -1,5 +1,5 @@
 -- Commands, reads, and what is left of a plan.
-use Rattle.std.proofs.Common.{◌≡◌, ℕ, zero, suc, ◌+◌, ◌*◌, ◌-◌, ◌≤◌, ◌<◌, Bool, true, false, List, [], ◌∷◌, ◌++◌, length, take, set, get_or, Option, Some, None, option_map, option_and_then, is_some, Result, Ok, Err, refl, sym, ap, subst, ◌∙◌, arith, if◌then◌else◌, ℤ, pos, unwrap_or}
+use Rattle.std.proofs.Common.{◌≡◌, ℕ, zero, suc, ◌+◌, ◌*◌, ◌≤◌, ◌<◌, Bool, true, false, List, [], ◌∷◌, ◌++◌, length, take, set, get_or, Option, Some, None, option_map, option_and_then, is_some, Result, Ok, Err, refl, sym, ap, subst, ◌∙◌, arith, if◌then◌else◌, ℤ, pos, unwrap_or}
 use mir.Val.{bool_byte}
 use Rattle.std.proofs.lemmas.List.{append_assoc, length-set, length-take, take_all, take_at}
 use Rattle.sf_meaning.specs.declared.movie.PlainMovie.{PlainMovie}
@@ -10,6 +10,8 @@ use Rattle.sf_extract.specs.SyncAt.{all_sought, seeked}
 use Rattle.sf_extract.specs.Readout.{Readout, before, ended_by, given, given_of, left_from, left_of, read_of, read_or, read_out, reads, remains, stored_in, where_one, with_read}
 use Rattle.sf_extract.specs.Runs.{GoesOn, GrowsBy, PutsRecord, Running, Stores, after_read, all_from, given_now, most_of, reads_first, rest_of, weight}
 use Rattle.sf_extract.specs.inner.Acts.{IsDone, IsHeld, Starts}
+use Rattle.sf_extract.specs.inner.Seats.{AreTheSeats}
+use Rattle.sf_extract.specs.declared.seats.Seat.{Seat}
 use Rattle.sf_extract.specs.declared.plan.Command.{Command}
 use Rattle.sf_extract.specs.declared.plan.Command.TheVariants.{Select, Unselect, Seek, Read, Advance, ToEnd}
 use Rattle.sf_extract.specs.declared.types.BadSample.{BadSample}
@@ -156,6 +158,27 @@ did_quietly c old was now like h = λ cs. record {
   loaded = like.loaded;
   lighter = (let less = lighter_by was now c cs like in omega (arith, less));
 }
+
+-- a command changes no movie
+pub selected_loaded : (e now : Extracting) (t : ℕ) → now ≡ selected e t → now.loaded ≡ e.loaded
+selected_loaded e now t h = ap (λ (x : Extracting). x.loaded) h
+
+pub unselected_loaded : (e now : Extracting) (t : ℕ) → now ≡ unselected e t → now.loaded ≡ e.loaded
+unselected_loaded e now t h = ap (λ (x : Extracting). x.loaded) h
+
+pub seeked_loaded : (e now : Extracting) (us : ℤ) (mode : Mode) → now ≡ seeked e us mode → now.loaded ≡ e.loaded
+seeked_loaded e now us mode h = ap (λ (x : Extracting). x.loaded) h
+
+pub advanced_loaded : (e now : Extracting) → now ≡ advanced e → now.loaded ≡ e.loaded
+advanced_loaded e now h = ap (λ (x : Extracting). x.loaded) h ∙ (like_past e (current e)).loaded
+
+-- an extractor whose tracks stand where they stood
+pub put_back_same : (was mid now : Extracting) (ps : Positions) → now ≡ moved_to mid ps → ps ≡ was.positions → mid.loaded ≡ was.loaded → now ≡ was
+put_back_same was mid now ps e p l = e ∙ ap (moved_to mid) p ∙ ap (λ (x : Loaded). record { loaded = x; positions = was.positions }) l
+
+-- seats of a movie are those of the same movie
+pub seats_kept : (a b : Loaded) (ss : List (Option Seat)) → a ≡ b → AreTheSeats b.movie ss → AreTheSeats a.movie ss
+seats_kept a b ss e h = subst (λ (x : Loaded). AreTheSeats x.movie ss) (sym e) h
 
 pub did_select : (t : ℕ) (old : List ℕ) (e : Extracting) → IsDone (Select t) old old e (selected e t)
 unfolding read_out

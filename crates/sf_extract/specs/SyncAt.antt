@@ -1,5 +1,5 @@
 -- Where a seek leads: to a sync sample (ISO/IEC 14496-12, 8.6.2) of each selected track, found among all samples.
-use Rattle.std.specs.Prelude.{ℕ, ◌+◌, ◌-◌, ℤ, ◌-ℤ◌, unsigned_abs, int_le, int_lt, nat_lt, ◌==◌, ◌&&◌, ◌||◌, Bool, List, [], ◌∷◌, Option, Some, None, option_map, if◌then◌else◌}
+use Rattle.std.specs.Prelude.{ℕ, ◌+◌, ℤ, ◌-ℤ◌, unsigned_abs, int_le, int_lt, nat_lt, ◌==◌, ◌&&◌, ◌||◌, Bool, List, [], ◌∷◌, Option, Some, None, option_map, if◌then◌else◌}
 use Rattle.std.specs.List.{filter, slice_get}
 use Rattle.sf_meaning.specs.Shown.{shown_us}
 use Rattle.sf_meaning.specs.declared.movie.PlainMovie.{PlainMovie}

@@ -1,5 +1,5 @@
 pub mod Words
 pub mod Seats
-pub mod Seeks
+pub mod Orders
 pub mod Acts
 pub mod Times

@@ -2,11 +2,13 @@
 
 ghost use Rattle.std.specs.Prelude.{◌≡◌, ◌+◌, ◌≤◌, ◌<◌, ◌↔◌, length, is_some, option_map, Some, IfOk, IfSome, IsOk, OnOk, OnErr};
 ghost use Rattle.sf_movie.specs.Loaded.{sample_count};
-ghost use Rattle.sf_extract.specs.Current.{advanced, current, current_sample, flags_of, place_of, selected, stored_len, unmoved, unselected};
+ghost use Rattle.sf_extract.specs.Current.{advanced, current, current_sample, flags_of, moved_to, place_of, selected, stored_len, unmoved, unselected};
 ghost use Rattle.sf_extract.specs.HandedOut.{HandsOut, handed_now};
 ghost use Rattle.sf_extract.specs.SyncAt.{seeked};
+ghost use Rattle.sf_extract.specs.inner.Seats.{AreTheSeats, positions_in};
 
 use crate::handed::{cut_width, hand_out};
+use crate::order::{SyncOrder, orders_of};
 use crate::seats::{Seat, first_seated, no_seats, seat_after, seat_selected};
 use crate::seek::seek_all;
 use crate::types::{Mode, NoTrack, Place, Standing};
@@ -22,41 +24,51 @@ pub struct Extractor<'a> {
     alloc: Global,
     movie: &'a Movie,
     seats: Vec<Option<Seat>>,
+    orders: Vec<SyncOrder>,
 }
 
 impl<'a> Model for Extractor<'a> {
     ghost use Rattle.sf_extract.specs.Current.{Extracting};
+    ghost use Rattle.sf_extract.specs.inner.Orders.{AreTheOrders};
     ghost use Rattle.sf_extract.specs.inner.Seats.{AreTheSeats, positions_in};
 
     ghost Value = { Extracting };
 
     ghost view = { λ e. record { loaded = e.movie.now; positions = positions_in e.seats.items } };
 
-    ghost invariant = { λ e. AreTheSeats e.movie.now.movie e.seats.items };
+    ghost invariant = { λ e. AreTheSeats e.movie.now.movie e.seats.items × AreTheOrders e.movie.now.movie e.orders.items };
 }
 
 impl<'a> Extractor<'a> {
-    /// An extractor of a movie, of which no track is selected.
+    /// An extractor of a movie, of which no track is selected. It goes along the samples of each track, so that
+    /// a seek looks at few of them.
     pub fn new(alloc: Global, movie: &'a Movie) -> Result<Extractor<'a>, AllocError>
         ensures { IfOk result (λ e. e ≡ unmoved movie.now) }
     {
         let seats = no_seats(alloc, movie)?;
+        let orders = orders_of(alloc, movie)?;
         Ok(Extractor {
             alloc,
             movie,
             seats,
+            orders,
         })
     }
 
-    /// A copy, which stands at the same samples.
-    pub(crate) fn copy(&self) -> Result<Extractor<'a>, AllocError>
-        ensures { IfOk result (λ e. e ≡ self.now) }
+    /// A copy of where the tracks stand.
+    pub(crate) fn seats(&self) -> Result<Vec<Option<Seat>>, AllocError>
+        ensures positions { IfOk result (λ v. positions_in v.items ≡ self.now.positions) }
+        ensures seats { IfOk result (λ v. AreTheSeats self.now.loaded.movie v.items) }
     {
-        Ok(Extractor {
-            alloc: self.alloc,
-            movie: self.movie,
-            seats: Vec::from_slice(self.alloc, &self.seats)?,
-        })
+        Vec::from_slice(self.alloc, &self.seats)
+    }
+
+    /// The tracks stand where they stood.
+    pub(crate) fn put_back(&mut self, seats: Vec<Option<Seat>>)
+        requires { AreTheSeats self.old.loaded.movie seats.items }
+        ensures { self.new ≡ moved_to self.old (positions_in seats.items) }
+    {
+        self.seats = seats;
     }
 
     /// Selects a track, from its first sample on. A track that is selected stays where it is. It errs where
@@ -188,7 +200,7 @@ impl<'a> Extractor<'a> {
     pub fn seek(&mut self, us: i64, mode: Mode)
         ensures { self.new ≡ seeked self.old us mode }
     {
-        seek_all(self.movie, &mut self.seats, us, mode);
+        seek_all(self.movie, &self.orders, &mut self.seats, us, mode);
     }
 
     /// Puts what is handed out of the current sample, whose stored bytes these are, at the end, and answers how

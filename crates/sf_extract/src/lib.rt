@@ -9,6 +9,7 @@
 
 mod extractor;
 mod handed;
+mod order;
 mod plan;
 mod plan_run;
 mod plan_word;

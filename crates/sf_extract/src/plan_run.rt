@@ -50,6 +50,7 @@ fn put_end<'a>(extractor: &Extractor<'a>, out: &mut Bytes) -> Result<bool, Alloc
 }
 
 // Carries out a command, unless it reads the current sample: then the answer is false.
+#[tactic(auto, using(crate::proofs::RunLemmas::selected_loaded, crate::proofs::RunLemmas::unselected_loaded, crate::proofs::RunLemmas::seeked_loaded, crate::proofs::RunLemmas::advanced_loaded))]
 fn act<'a>(
     extractor: &mut Extractor<'a>,
     command: Command,
@@ -58,6 +59,7 @@ fn act<'a>(
     requires { IsInTime command }
     ensures done { IfOk result (λ done. done ≡ true → IsDone command out.old out.new extractor.old extractor.new) }
     ensures held { IfOk result (λ done. done ≡ false → IsHeld command out.old out.new extractor.old extractor.new) }
+    ensures loaded { extractor.new.loaded ≡ extractor.old.loaded }
     ensures err { OnErr result (Starts out.old out.new) }
 {
     match command {
@@ -86,6 +88,7 @@ fn carry_out<'a>(
     ensures most { IfOk result (λ n. n ≤ length plan.now) }
     ensures done { IfOk result (λ n. GoesOn out.old out.new (record { at = extractor.old; left = drop from plan.now }) (record { at = extractor.new; left = drop n plan.now })) }
     ensures reads { IfOk result (λ n. n < length plan.now → (reads_first (drop n plan.now) ≡ true) × (is_some (current extractor.new) ≡ true)) }
+    ensures loaded { extractor.new.loaded ≡ extractor.old.loaded }
     ensures err { OnErr result (Starts out.old out.new) }
 {
     let mut n = from;
@@ -131,13 +134,14 @@ impl<'a> PlanRun<'a> {
     /// Carries out the commands up to the next one that reads a sample, and puts the dump up to there at the
     /// end. It answers where the bytes of that sample lie, or that the plan is over. Without memory all is as
     /// before.
+    #[tactic(auto, using(crate::proofs::RunLemmas::put_back_same, crate::proofs::RunLemmas::seats_kept))]
     pub fn step(&mut self, out: &mut Bytes) -> Result<Turn, AllocError>
         ensures on { OnOk result (GoesOn out.old out.new self.old self.new) }
         ensures needs { IfOk result (λ turn. Needs turn self.new) }
         ensures err { OnErr result (self.new ≡ self.old) }
         ensures out { OnErr result (out.new ≡ out.old) }
     {
-        let kept = self.extractor.copy()?;
+        let seats = self.extractor.seats()?;
         let len = out.len();
         match carry_out(&mut self.extractor, &self.plan, self.next, out) {
             Ok(n) => {
@@ -145,7 +149,7 @@ impl<'a> PlanRun<'a> {
                 Ok(self.turn())
             }
             Err(error) => {
-                self.extractor = kept;
+                self.extractor.put_back(seats);
                 out.cut(len);
                 Err(error)
             }

@@ -1,4 +1,4 @@
-use Rattle.std.proofs.Common.{◌+◌, drop, arith}
+use Rattle.std.proofs.Common.{◌+◌, ◌∙◌, drop, arith}
 use Rattle.sf_extract.specs.inner.Acts.{Starts}
 use Rattle.sf_extract.proofs.EndLemmas.{on_err}
 use Rattle.sf_extract.proofs.RunLemmas.{carry_on, goes_nowhere, held_on, held_reads, starts_on}
@@ -26,3 +26,9 @@ returns-then-not-done-clause-reads c = λ _.
 
 pub returns-in_err-done-clause-err : goal.returns-in_err-done-clause-err
 returns-in_err-done-clause-err c = on_err c.from_residual.result (Starts c.args.out.now c.act.new.out) (starts_on c.args.out.now c.loop-n.out c.act.new.out c.loop-n.invariant.1.out c.in_err-done.ensures.err)
+
+pub returns-in_err-done-clause-loaded : goal.returns-in_err-done-clause-loaded
+returns-in_err-done-clause-loaded c = c.act.ensures.loaded ∙ c.loop-n.invariant.1.loaded
+
+pub returns-then-not-done-clause-loaded : goal.returns-then-not-done-clause-loaded
+returns-then-not-done-clause-loaded c = c.act.ensures.loaded ∙ c.loop-n.invariant.1.loaded

@@ -3,7 +3,7 @@ use Rattle.sf_extract.proofs.SeatLemmas.{advanced_to, set_seat}
 use Rattle.sf_extract.proofs.extractor.Extractor.advance.Goals as goal
 
 pub invariant_of-self : goal.invariant_of-self
-invariant_of-self c = set_seat _ c.self.inside.seats.items c.in-Some.standing.track (Some c.seat_after.result) c.self.invariant c.seat_after.ensures.seat
+invariant_of-self c = (set_seat _ c.self.inside.seats.items c.in-Some.standing.track (Some c.seat_after.result) c.self.invariant.0 c.seat_after.ensures.seat, c.self.invariant.1)
 
 pub returns-clause-moved : goal.returns-clause-moved
 returns-clause-moved c =
