@@ -5,4 +5,6 @@ pub mod Holding
 pub mod Performing
 pub mod Recording
 pub mod Telling
+pub mod Plans
+pub mod Extracting
 pub mod Listing

@@ -20,14 +20,14 @@ pub record Visit (name : List ℕ) (source end : SourceView) (before middle afte
   pub kept : middle.faults ≡ before.faults
   pub takes : TakesBack end.faults middle after
 
-abbrev given_back : (name : List ℕ) (source end : SourceView) (i m i' : InputsView) → Visit name source end i m i' → GivenBack name i i'
+abbrev pub given_back : (name : List ℕ) (source end : SourceView) (i m i' : InputsView) → Visit name source end i m i' → GivenBack name i i'
 given_back name source end i m i' v = record {
   asked = v.takes.asked ∙ v.gave.asked;
   faults = end.faults;
   returned = v.takes.returned ∙ ap (λ (l : List ℕ). l ++ end.faults ∷ []) v.gave.returned;
 }
 
-faulty : (name : List ℕ) (source end : SourceView) (i m i' : InputsView) → Visit name source end i m i' → Rose source.faults end.faults → Faulty name i i'
+pub faulty : (name : List ℕ) (source end : SourceView) (i m i' : InputsView) → Visit name source end i m i' → Rose source.faults end.faults → Faulty name i i'
 faulty name source end i m i' v rose = record {
   back = given_back name source end i m i' v;
   some = omega (arith, rose, v.given.faults);

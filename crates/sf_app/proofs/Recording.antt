@@ -18,9 +18,10 @@ use Rattle.sf_record.specs.declared.faults.InputFault.TheVariants.{Coded, Setup 
 use Rattle.sf_record.specs.declared.faults.TrackFault.{TrackFault}
 use Rattle.sf_record.specs.declared.serial_end.SerialOutcome.{SerialOutcome}
 use Rattle.sf_record.specs.declared.serial_end.SerialOutcome.TheVariants as outcomes
+use Rattle.sf_app.specs.AnswerText.{Answered}
 use Rattle.sf_app.specs.Lending.{AreGiven, FaultyAt, Lent, faults_of, total}
 use Rattle.sf_app.specs.Outside.{KeepInputs}
-use Rattle.sf_app.specs.RecordEnds.{Answered, AreHeld, Performs, Records, answered, status_of, usual_limits}
+use Rattle.sf_app.specs.RecordEnds.{AreHeld, Performs, Records, answered, status_of, usual_limits}
 use Rattle.sf_app.specs.declared.status.Status.{Status}
 use Rattle.sf_app.specs.declared.status.Status.TheVariants as statuses
 use Rattle.sf_app.specs.inner.Fetching.{Fetched, TakesAllBack, Unfetched}
@@ -283,10 +284,12 @@ performs_early names (statuses.ReadFault input) i i' s u = absurd u
 performs_early names statuses.WriteFault i i' s u = absurd u
 performs_early names (statuses.InputRefused track fault) i i' s u = absurd u
 performs_early names (statuses.MovieRefused fault) i i' s u = absurd u
+performs_early names (statuses.SampleRefused reader track sample at) i i' s u = absurd u
 performs_early names (statuses.LimitReached limit) i i' s u = absurd u
+performs_early names (statuses.PlanRefused reader command) i i' s u = absurd u
 performs_early names statuses.NoMemory i i' s u = inl (refl, u.0, u.1)
 
-answered_early : (names : List (List ℕ)) (status called : Status) (i i' : InputsView) → Unfetched names status i i' → (Rose i.misses i'.misses → ⊥) → Answered (Err status) called
+answered_early : (names : List (List ℕ)) (status called : Status) (i i' : InputsView) → Unfetched names status i i' → (Rose i.misses i'.misses → ⊥) → Answered {A = Report} (Err status) called
 answered_early names statuses.Done called i i' u not = absurd u
 answered_early names (statuses.Usage fault) called i i' u not = absurd u
 answered_early names (statuses.OpenFault input) called i i' u not = absurd (not u.failed)
@@ -294,7 +297,9 @@ answered_early names (statuses.ReadFault input) called i i' u not = absurd u
 answered_early names statuses.WriteFault called i i' u not = absurd u
 answered_early names (statuses.InputRefused track fault) called i i' u not = absurd u
 answered_early names (statuses.MovieRefused fault) called i i' u not = absurd u
+answered_early names (statuses.SampleRefused reader track sample at) called i i' u not = absurd u
 answered_early names (statuses.LimitReached limit) called i i' u not = absurd u
+answered_early names (statuses.PlanRefused reader command) called i i' u not = absurd u
 answered_early names statuses.NoMemory called i i' u not = inl refl
 
 pub performs_handed : (names : List (List ℕ)) (r : Result Report Status) (status : Status) (i i' : InputsView) (s : ShelfView) → IsErrAnd r (λ z. z ≡ status) → Unfetched names status i i' → Performs names r i i' s s

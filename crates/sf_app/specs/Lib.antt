@@ -6,5 +6,7 @@ pub mod ListText
 pub mod Outside
 pub mod Lending
 pub mod RecordEnds
+pub mod Plans
+pub mod ExtractEnds
 pub mod ListEnds
 pub mod Ends

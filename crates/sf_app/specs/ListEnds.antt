@@ -12,7 +12,7 @@ use Rattle.sf_app.specs.Outside.{Faulty, KeepInputs, Missed, OfTold, Outside}
 use Rattle.sf_app.specs.declared.movie.ListFault.{ListFault}
 use Rattle.sf_app.specs.declared.movie.ListFault.TheVariants as lists
 use Rattle.sf_app.specs.declared.status.Status.{Status}
-use Rattle.sf_app.specs.declared.status.Status.TheVariants.{Done, Usage, OpenFault, ReadFault, WriteFault, InputRefused, MovieRefused, LimitReached, NoMemory}
+use Rattle.sf_app.specs.declared.status.Status.TheVariants.{Done, Usage, OpenFault, ReadFault, WriteFault, InputRefused, MovieRefused, SampleRefused, LimitReached, PlanRefused, NoMemory}
 
 -- the bytes of a file are this movie, where they are told
 abbrev pub AreMovie : Option (List ℕ) → PlainMovie → Type 0
@@ -52,7 +52,9 @@ Reads name (Err (ReadFault input)) i i' = (input ≡ 0) × Faulty name i i'
 Reads name (Err WriteFault) i i' = ⊥
 Reads name (Err (InputRefused track fault)) i i' = ⊥
 Reads name (Err (MovieRefused fault)) i i' = AreRefused (i.holds name) fault × GivenBack name i i'
+Reads name (Err (SampleRefused reader track sample at)) i i' = ⊥
 Reads name (Err (LimitReached limit)) i i' = ⊥
+Reads name (Err (PlanRefused reader command)) i i' = ⊥
 Reads name (Err NoMemory) i i' = NotAsked i i' ⊎ GivenBack name i i'
 
 -- A text gained a first part of some lines, and not nothing.
@@ -69,7 +71,9 @@ TellsList lines (ReadFault input) t t' = ⊥
 TellsList lines WriteFault t t' = FailsWithin lines t t'
 TellsList lines (InputRefused track fault) t t' = ⊥
 TellsList lines (MovieRefused fault) t t' = ⊥
+TellsList lines (SampleRefused reader track sample at) t t' = ⊥
 TellsList lines (LimitReached limit) t t' = ⊥
+TellsList lines (PlanRefused reader command) t t' = ⊥
 TellsList lines NoMemory t t' = GainsSome lines t t'
 
 -- The movie was read, and the text lists it as far as the answer says.

@@ -1,7 +1,7 @@
 -- How the recording of inputs ends.
 use Rattle.std.specs.Prelude.{◌≡◌, ℕ, ◌⊎◌, List, [], ◌++◌, codes, map, slice_get, Some, None, Result, Ok, Err}
 use Rattle.sf_world.specs.Counts.{Rose}
-use Rattle.sf_world.specs.Views.{FailsWithin, Gains, InputsView, Says, ShelfView, SinkView, SourceView}
+use Rattle.sf_world.specs.Views.{InputsView, Says, ShelfView, SourceView}
 use Rattle.sf_meaning.specs.Joined.{joined}
 use Rattle.sf_meaning.specs.Rows.{held_as}
 use Rattle.sf_series.specs.declared.limits.Limits.{Limits}
@@ -11,11 +11,11 @@ use Rattle.sf_record.specs.Said.{Said, said_in, usual}
 use Rattle.sf_record.specs.Serial.{KeepsMade, SerialEnds, asked_for, gave}
 use Rattle.sf_record.specs.declared.serial_end.SerialOutcome.{SerialOutcome}
 use Rattle.sf_record.specs.declared.serial_end.SerialOutcome.TheVariants as outcomes
-use Rattle.sf_app.specs.AnswerText.{done_lines, line_of}
+use Rattle.sf_app.specs.AnswerText.{TellsDone, done_lines, line_of}
 use Rattle.sf_app.specs.Lending.{BackUnread, FaultyAt, Lent, MissedAt}
 use Rattle.sf_app.specs.Outside.{KeepInputs, Outside}
 use Rattle.sf_app.specs.declared.status.Status.{Status}
-use Rattle.sf_app.specs.declared.status.Status.TheVariants.{Done, Usage, OpenFault, ReadFault, WriteFault, InputRefused, MovieRefused, LimitReached, NoMemory}
+use Rattle.sf_app.specs.declared.status.Status.TheVariants.{Done, Usage, OpenFault, ReadFault, WriteFault, InputRefused, MovieRefused, SampleRefused, LimitReached, PlanRefused, NoMemory}
 
 -- the limits where nothing else is asked for: one file `out-1.mp4`, of whatever length
 abbrev pub usual_limits : Limits
@@ -43,20 +43,10 @@ Performs names (Err (ReadFault input)) i i' s s' = RecordsSo names (outcomes.Rea
 Performs names (Err WriteFault) i i' s s' = RecordsSo names outcomes.WriteFault i i' s s' × Rose s.faults s'.faults
 Performs names (Err (InputRefused track fault)) i i' s s' = RecordsSo names (outcomes.Refused track fault) i i' s s'
 Performs names (Err (MovieRefused fault)) i i' s s' = ⊥
+Performs names (Err (SampleRefused reader track sample at)) i i' s s' = ⊥
 Performs names (Err (LimitReached limit)) i i' s s' = RecordsSo names (outcomes.Limit limit) i i' s s'
+Performs names (Err (PlanRefused reader command)) i i' s s' = ⊥
 Performs names (Err NoMemory) i i' s s' = ((s' ≡ s) × (number : ℕ) × BackUnread names number [] i i') ⊎ RecordsSo names outcomes.NoMemory i i' s s'
-
--- how the text tells that a recording is done, by the answer: it gained all lines, or failed within them, or there was no memory for them
-abbrev pub TellsDone : List ℕ → Status → SinkView → SinkView → Type 0
-TellsDone lines Done t t' = Gains lines t t'
-TellsDone lines (Usage fault) t t' = ⊥
-TellsDone lines (OpenFault input) t t' = ⊥
-TellsDone lines (ReadFault input) t t' = ⊥
-TellsDone lines WriteFault t t' = FailsWithin lines t t'
-TellsDone lines (InputRefused track fault) t t' = ⊥
-TellsDone lines (MovieRefused fault) t t' = ⊥
-TellsDone lines (LimitReached limit) t t' = ⊥
-TellsDone lines NoMemory t t' = t' ≡ t
 
 -- The recording was done, and the text tells it as far as the answer says.
 pub record TellsReport (names : List (List ℕ)) (result : Status) (b a : Outside) : Type 0 where
@@ -86,11 +76,6 @@ status_of (outcomes.Limit limit) = LimitReached limit
 status_of (outcomes.Refused track fault) = InputRefused track fault
 status_of (outcomes.ReadFault input) = ReadFault input
 status_of outcomes.NoMemory = NoMemory
-
--- before the text: the answer is this one, or want of memory
-abbrev pub Answered : Result Report Status → Status → Type 0
-Answered (Ok report) called = Done ≡ called
-Answered (Err status) called = (status ≡ NoMemory) ⊎ (status ≡ called)
 
 -- An input is whole, and its samples are just those that files hold of a track, joined in their order.
 pub record IsHeld (track : ℕ) (said : Said) (files : List (List ℕ)) : Type 0 where

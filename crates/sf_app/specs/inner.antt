@@ -1,5 +1,6 @@
 -- What only ties the code to the definitions.
 pub mod Commands
+pub mod Extraction
 pub mod Fetching
 pub mod Gathered
 pub mod Load

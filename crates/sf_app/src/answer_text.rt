@@ -1,9 +1,10 @@
 //! The lines of answers, put into a text.
 
 ghost use Rattle.std.specs.Prelude.{◌≡◌, ◌++◌, string_bytes, IfOk, OnOk};
-ghost use Rattle.sf_app.specs.AnswerText.{done_lines, limit_line, line_of, value_line, value_lines, Puts};
+ghost use Rattle.sf_app.specs.AnswerText.{done_lines, dump_lines, limit_line, line_of, told, value_line, value_lines, Puts};
 
 use super::Status;
+use sf_list::Items;
 use sf_series::{LimitShown, Report};
 use sf_world::{Denied, Sink};
 use std::alloc::{AllocError, Global};
@@ -55,6 +56,39 @@ pub(crate) fn put_done<T: Sink>(alloc: Global, text: &mut T, report: &Report) ->
 {
     let lines = done_lines(alloc, report)?;
     put(text, lines.as_str())
+}
+
+// The lines of an extraction that is done.
+fn dump_lines(alloc: Global, lengths: &[u64]) -> Result<String, AllocError>
+    ensures { IfOk result (λ lines. string_bytes lines ≡ dump_lines lengths.now) }
+{
+    let mut lines = String::new(alloc);
+    add_values(&mut lines, "dump", 1, lengths)?;
+    lines.push_str("done\n")?;
+    Ok(lines)
+}
+
+/// Puts the lines of an extraction that is done into a text.
+pub(crate) fn put_dumps<T: Sink>(
+    alloc: Global,
+    text: &mut T,
+    lengths: &Items<u64>,
+) -> Result<(), Denied>
+    ensures { Puts (dump_lines lengths.now) result (T.seen text.old) (T.seen text.new) }
+{
+    let lines = dump_lines(alloc, lengths.as_slice())?;
+    put(text, lines.as_str())
+}
+
+/// How the text into which the lines of a done command were put turns its answer.
+pub(crate) fn told(put: Result<(), Denied>) -> Status
+    ensures { result ≡ told put }
+{
+    match put {
+        Ok(()) => Status::Done,
+        Err(Denied::Failed) => Status::WriteFault,
+        Err(Denied::NoMemory) => Status::NoMemory,
+    }
 }
 
 // The line of a limit that was reached.
@@ -129,7 +163,22 @@ pub(crate) fn put_answer<T: Sink>(
             put(text, line.as_str())
         }
         Status::MovieRefused(_) => put(text, "movie refused\n"),
+        Status::SampleRefused {
+            reader,
+            track,
+            sample,
+            at,
+        } => {
+            let line = format!(in alloc;
+                "sample refused: reader {reader} track {track} sample {sample} at {at}\n"
+            )?;
+            put(text, line.as_str())
+        }
         Status::LimitReached(limit) => put_limit(alloc, text, limit),
+        Status::PlanRefused { reader, command } => {
+            let line = format!(in alloc; "plan refused: reader {reader} command {command}\n")?;
+            put(text, line.as_str())
+        }
         Status::NoMemory => put(text, "no memory\n"),
     }
 }

@@ -1,9 +1,9 @@
 //! The command `record`.
 
 ghost use Rattle.std.specs.Prelude.{◌≡◌, ◌≢◌, ℕ, ◌≤◌, List, length, map, slice_get, string_bytes, Some, None, Ok, Err, IfOk, IfErr};
-ghost use Rattle.sf_app.specs.AnswerText.{done_lines};
+ghost use Rattle.sf_app.specs.AnswerText.{Answered, TellsDone, done_lines};
 ghost use Rattle.sf_app.specs.Outside.{KeepInputs, outside_of};
-ghost use Rattle.sf_app.specs.RecordEnds.{Answered, AreHeld, HoldsInputs, Performs, RecordEnds, TellsDone, answered, status_of, usual_limits};
+ghost use Rattle.sf_app.specs.RecordEnds.{AreHeld, HoldsInputs, Performs, RecordEnds, answered, status_of, usual_limits};
 ghost use Rattle.sf_app.specs.inner.Fetching.{Fetched, TakesAllBack, Unfetched, unfetched};
 ghost use Rattle.sf_record.specs.Called.{called_for};
 ghost use Rattle.sf_record.specs.Said.{said_in, usual};
@@ -11,7 +11,7 @@ ghost use Rattle.sf_series.specs.Series.{AreLimits};
 ghost use Rattle.sf_world.specs.Counts.{Rose};
 
 use super::Status;
-use super::answer_text::{put_answer, put_done};
+use super::answer_text::{put_answer, put_done, told};
 use sf_gather::Options;
 use sf_list::Text;
 use sf_record::{SerialOutcome, record_serial};
@@ -131,11 +131,7 @@ fn record_inputs<I: Inputs, O: Shelf>(
 fn tell_done<T: Sink>(alloc: Global, text: &mut T, report: &Report) -> Status
     ensures { TellsDone (done_lines report.now) result (T.seen text.old) (T.seen text.new) }
 {
-    match put_done(alloc, text, report) {
-        Ok(()) => Status::Done,
-        Err(Denied::Failed) => Status::WriteFault,
-        Err(Denied::NoMemory) => Status::NoMemory,
-    }
+    told(put_done(alloc, text, report))
 }
 
 /// Records the inputs of names, each as a track, into the files of a recording, and tells how it went.

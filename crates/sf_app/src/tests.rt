@@ -5,6 +5,7 @@ use sf_list::{Bytes, Text};
 use sf_world::{MemInputs, MemShelf, MemText};
 use std::alloc::{AllocError, Global};
 
+mod extracting;
 mod failures;
 mod inputs;
 mod listing;

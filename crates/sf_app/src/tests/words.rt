@@ -7,25 +7,40 @@ use std::test::Fail;
 const USAGE: &[u8] =
     b"usage: record INPUT.. | extract MOVIE PLAN.. | list MOVIE | make COUNT TRACKS\n";
 
+/// An extraction of 17 plans, of which the first isn't one.
+const SEVENTEEN: [&str; 19] = [
+    "extract", "a", "x", "r", "r", "r", "r", "r", "r", "r", "r", "r", "r", "r", "r", "r", "r", "r",
+    "r",
+];
+
 #[test]
 fn words_that_are_no_command_are_refused(rt: HostRuntime) -> Result<(), Fail> {
-    let rows: [(&[&str], UsageFault); 16] = [
+    let rows: [(&[&str], UsageFault); 21] = [
         (&[], UsageFault::Command),
         (&[""], UsageFault::Command),
         (&["Record", "a"], UsageFault::Command),
         (&["records", "a"], UsageFault::Command),
         (&["record"], UsageFault::Words),
         (&["record", ""], UsageFault::Words),
-        (&["record", "-"], UsageFault::Words),
+        (&["record", "--"], UsageFault::Words),
         (&["record", "-a"], UsageFault::Words),
         (&["record", "a", ""], UsageFault::Words),
         (&["record", "a", "-a"], UsageFault::Words),
-        (&["record", "a", "a", "-", "a"], UsageFault::Words),
+        (&["record", "a", "a", "-a", "a"], UsageFault::Words),
         (&["lists", "a"], UsageFault::Command),
         (&["list"], UsageFault::Words),
         (&["list", ""], UsageFault::Words),
         (&["list", "-a"], UsageFault::Words),
         (&["list", "a", "a"], UsageFault::Words),
+        (&["extract", "a"], UsageFault::Words),
+        (&["extract", "a", "-r"], UsageFault::Words),
+        // The words are counted before they are read as plans.
+        (&SEVENTEEN, UsageFault::Words),
+        (&["extract", "a", "r", "s0,x", ""], UsageFault::Words),
+        (
+            &["extract", "a", "r", "s0,x", "x"],
+            UsageFault::PlanWord { reader: 1, at: 3 },
+        ),
     ];
     for (words, fault) in rows {
         let ended = run_words(rt.alloc(), words, &INPUT)?;
@@ -48,6 +63,16 @@ fn each_answer_has_its_code(rt: HostRuntime) {
         would_be: 1,
         max: 0,
     };
+    let refused = Status::SampleRefused {
+        reader: 0,
+        track: 0,
+        sample: 0,
+        at: 0,
+    };
+    let missing = Status::PlanRefused {
+        reader: 0,
+        command: 0,
+    };
     let codes = [
         (Status::Done, 0),
         (Status::Usage(UsageFault::Words), 2),
@@ -56,7 +81,9 @@ fn each_answer_has_its_code(rt: HostRuntime) {
         (Status::WriteFault, 5),
         (Status::InputRefused { track: 0, fault }, 6),
         (Status::MovieRefused(MovieFault::NoMoov { at: 0 }), 7),
+        (refused, 7),
         (Status::LimitReached(limit), 8),
+        (missing, 9),
         (Status::NoMemory, 10),
     ];
     for (status, code) in codes {

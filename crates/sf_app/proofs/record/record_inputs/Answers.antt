@@ -5,8 +5,9 @@ use Rattle.sf_series.specs.declared.report.Report.{Report}
 use Rattle.sf_world.specs.Views.{SourceView}
 use Rattle.sf_record.specs.Called.{called_for}
 use Rattle.sf_record.specs.Said.{usual}
+use Rattle.sf_app.specs.AnswerText.{Answered}
 use Rattle.sf_app.specs.Lending.{Lent, faults_of}
-use Rattle.sf_app.specs.RecordEnds.{Answered, Performs, status_of, usual_limits}
+use Rattle.sf_app.specs.RecordEnds.{Performs, status_of, usual_limits}
 use Rattle.sf_app.specs.declared.status.Status.{Status}
 use Rattle.sf_app.specs.inner.Fetching.{TakesAllBack}
 use Rattle.sf_app.proofs.Holding.{held_ok, not_done}
