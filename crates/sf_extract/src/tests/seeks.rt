@@ -70,8 +70,7 @@ fn first_astray(alloc: Global, tables: &[u8], seeks: &[Seek]) -> Result<Option<u
     if extractor.select(0).is_err() {
         return Err("no track".into());
     }
-    let mut number = 0;
-    for (mode, us, at) in seeks {
+    for (number, (mode, us, at)) in seeks.iter().enumerate() {
         extractor.seek(*us, *mode);
         let place = match extractor.place() {
             Some(place) => Some(place.at),
@@ -80,7 +79,6 @@ fn first_astray(alloc: Global, tables: &[u8], seeks: &[Seek]) -> Result<Option<u
         if place != *at {
             return Ok(Some(number));
         }
-        number += 1;
     }
     Ok(None)
 }
