@@ -1,5 +1,5 @@
 -- What a movie that was fetched, extracted and given back says of an answer.
-use Rattle.std.proofs.Common.{◌≡◌, ◌≢◌, ℕ, zero, suc, ◌+◌, ◌≤◌, ◌⊎◌, List, [], ◌∷◌, length, map, Option, Some, None, Result, Ok, Err, refl, sym, ap, subst, ◌∙◌, inl, inr, arith}
+use Rattle.std.proofs.Common.{◌≡◌, ◌≢◌, ℕ, zero, suc, ◌+◌, List, [], ◌∷◌, length, map, Option, Some, None, Result, Ok, Err, refl, sym, ap, subst, ◌∙◌, inl, inr, arith}
 use Rattle.std.specs.Prelude.{IfOk, IfErr}
 use Rattle.sf_world.specs.Counts.{Rose}
 use Rattle.sf_world.specs.Views.{InputsView, Says, ShelfView, SinkView, SourceView}
@@ -17,13 +17,15 @@ use Rattle.sf_reader.specs.Dumps.{AreUpTo, AreWhole, dumps_of, first_missing, mi
 use Rattle.sf_reader.specs.Extracted.{Extracted, IsLoaded, KeptDumps, KeptOf, OfReadouts}
 use Rattle.sf_reader.specs.declared.outcome.ExtractOutcome.{ExtractOutcome}
 use Rattle.sf_reader.specs.declared.outcome.ExtractOutcome.TheVariants as outcomes
+use Rattle.sf_words.specs.declared.command.ExtractAsked.{ExtractAsked}
 use Rattle.sf_app.specs.AnswerText.{Answered, Puts, line_of}
-use Rattle.sf_app.specs.ExtractEnds.{AreReadOut, EndsBy, Extraction, Extracts, ExtractsSo, PlansEnd, ReadsOut, answer_for, by_movie, by_plans, by_readouts, loaded, missing_or, refused_or}
-use Rattle.sf_app.specs.Outside.{KeepInputs, OfTold, Outside}
+use Rattle.sf_app.specs.ExtractEnds.{AreReadOut, EndsBy, ExtractEnds, Extraction, Extracts, ExtractsSo, PlansEnd, ReadsOut, answer_for, by_movie, by_plans, by_readouts, loaded, missing_or, refused_or}
+use Rattle.sf_app.specs.Outside.{OfTold, Outside}
+use Rattle.sf_app.specs.Plans.{plans_from}
 use Rattle.sf_app.specs.declared.status.Status.{Status}
 use Rattle.sf_app.specs.declared.status.Status.TheVariants as statuses
 use Rattle.sf_app.specs.declared.status.UsageFault.{UsageFault}
-use Rattle.sf_app.specs.inner.Extraction.{NotRead, answered, usual_extraction}
+use Rattle.sf_app.specs.inner.Extraction.{NotRead, answered, extraction}
 use Rattle.sf_app.proofs.Performing.{Visit, faulty, given_back}
 
 -- ---- the answer before the text
@@ -181,29 +183,37 @@ says_by lines (Ok done) t t' p = inl p
 says_by lines (Err denials.Failed) t t' p = inr (inr p)
 says_by lines (Err denials.NoMemory) t t' p = inr (inl p)
 
-no_memory : (name : List ℕ) (plans : List (List Command)) (status : Status) (b a : Outside) → status ≡ statuses.NoMemory → a.inputs ≡ b.inputs → a.shelf ≡ b.shelf → Says (line_of status) b.text a.text
-    → PlansEnd (usual_extraction name plans) status b a
-no_memory name plans status b a e inputs shelf says =
-    let quiet : Extracts (usual_extraction name plans) (Err statuses.NoMemory) b.inputs a.inputs b.shelf a.shelf =
+no_memory : (asked : ExtractAsked) (plans : List (List Command)) (status : Status) (b a : Outside) → status ≡ statuses.NoMemory → a.inputs ≡ b.inputs → a.shelf ≡ b.shelf → Says (line_of status) b.text a.text
+    → PlansEnd (extraction asked plans) status b a
+no_memory asked plans status b a e inputs shelf says =
+    let quiet : Extracts (extraction asked plans) (Err statuses.NoMemory) b.inputs a.inputs b.shelf a.shelf =
     inl (shelf, record { asked = ap (λ (v : InputsView). v.asked) inputs; returned = ap (λ (v : InputsView). v.returned) inputs }) in
     let spare : a.inputs.spare ≡ b.inputs.spare = ap (λ (v : InputsView). v.spare) inputs in
     record {
-      ends = inr (record { extracts = subst (λ (z : Status). Extracts (usual_extraction name plans) (Err z) b.inputs a.inputs b.shelf a.shelf) (sym e) quiet; says = says });
+      ends = inr (record { extracts = subst (λ (z : Status). Extracts (extraction asked plans) (Err z) b.inputs a.inputs b.shelf a.shelf) (sym e) quiet; says = says });
       inputs = record { holds = λ other. ap (λ (v : InputsView). v.holds other) inputs; spare = omega (arith, spare) };
       done = λ is file told. absurd (let wrong : ⊥ = cc in wrong);
       complete = λ file told missed read written put. inl e;
     }
 
-pub ends_unread : (name : List ℕ) (said : Result (List (List Command)) UsageFault) (status : Status) (b a : Outside) → NotRead said status → a.inputs ≡ b.inputs → a.shelf ≡ b.shelf
-    → Says (line_of status) b.text a.text → EndsBy name said status b a
-ends_unread name (Err fault) status b a (inl e) inputs shelf says = record { answer = inr e; inputs = inputs; shelf = shelf; says = says }
-ends_unread name (Err fault) status b a (inr x) inputs shelf says =
+pub ends_unread : (asked : ExtractAsked) (said : Result (List (List Command)) UsageFault) (status : Status) (b a : Outside) → NotRead said status → a.inputs ≡ b.inputs → a.shelf ≡ b.shelf
+    → Says (line_of status) b.text a.text → EndsBy asked said status b a
+ends_unread asked (Err fault) status b a (inl e) inputs shelf says = record { answer = inr e; inputs = inputs; shelf = shelf; says = says }
+ends_unread asked (Err fault) status b a (inr x) inputs shelf says =
     let same : x.0 ≡ fault = (let told = x.1 in cc) in
     record { answer = inl (x.2 ∙ ap (λ (f : UsageFault). statuses.Usage f) same); inputs = inputs; shelf = shelf; says = says }
-ends_unread name (Ok plans) status b a (inl e) inputs shelf says = no_memory name plans status b a e inputs shelf says
-ends_unread name (Ok plans) status b a (inr x) inputs shelf says = absurd (let told = x.1 in let wrong : ⊥ = cc in wrong)
+ends_unread asked (Ok plans) status b a (inl e) inputs shelf says = no_memory asked plans status b a e inputs shelf says
+ends_unread asked (Ok plans) status b a (inr x) inputs shelf says = absurd (let told = x.1 in let wrong : ⊥ = cc in wrong)
+
+-- no plans were read from the words that are asked
+pub ends_not_read : (asked : ExtractAsked) (words : List (List ℕ)) (status : Status) (b a : Outside) → words ≡ asked.plans → NotRead (plans_from 0 words) status → a.inputs ≡ b.inputs → a.shelf ≡ b.shelf
+    → Says (line_of status) b.text a.text → ExtractEnds asked status b a
+ends_not_read asked words status b a same unread inputs shelf says =
+    ends_unread asked (plans_from 0 asked.plans) status b a (subst (λ (ws : List (List ℕ)). NotRead (plans_from 0 ws) status) same unread) inputs shelf says
 
 -- the plans that the words say were extracted
-pub ends_read : (name : List ℕ) (said : Result (List (List Command)) UsageFault) (plans : List (List Command)) (status : Status) (b a : Outside) → said ≡ Ok plans → PlansEnd (usual_extraction name plans) status b a
-    → EndsBy name said status b a
-ends_read name said plans status b a e ends = subst (λ (r : Result (List (List Command)) UsageFault). EndsBy name r status b a) (sym e) ends
+pub ends_read : (asked : ExtractAsked) (words : List (List ℕ)) (plans : List (List Command)) (status : Status) (b a : Outside) → words ≡ asked.plans → plans_from 0 words ≡ Ok plans
+    → PlansEnd (extraction asked plans) status b a → ExtractEnds asked status b a
+ends_read asked words plans status b a same e ends =
+    let said : plans_from 0 asked.plans ≡ Ok plans = ap (λ (ws : List (List ℕ)). plans_from 0 ws) (sym same) ∙ e in
+    subst (λ (r : Result (List (List Command)) UsageFault). EndsBy asked r status b a) (sym said) ends

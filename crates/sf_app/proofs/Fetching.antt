@@ -1,8 +1,8 @@
 -- Sources that are fetched one after the other, and given back one after the other.
-use Rattle.std.proofs.Common.{◌≡◌, ℕ, zero, suc, ◌+◌, ◌^◌, ◌<◌, ◌≤◌, Bool, true, false, List, [], ◌∷◌, ◌++◌, length, map, take, replicate, Option, Some, refl, sym, ap, subst, ◌∙◌, append_assoc, append-nil, length-append, arith}
+use Rattle.std.proofs.Common.{◌≡◌, ℕ, zero, suc, ◌+◌, ◌^◌, ◌<◌, ◌≤◌, Bool, true, false, List, [], ◌∷◌, ◌++◌, length, take, replicate, Option, Some, refl, sym, ap, subst, ◌∙◌, append_assoc, append-nil, length-append, arith}
 use Rattle.std.specs.Prelude.{get_or, slice_get}
 use Rattle.std.proofs.lemmas.Option.{slice_get-get_or}
-use Rattle.std.proofs.lemmas.List.{get_or-map, length-map, length-take-le, map-append, take_more}
+use Rattle.std.proofs.lemmas.List.{length-map, length-take-le, map-append, take_more}
 use Rattle.std.proofs.lemmas.List.Sums.{sum_by-append, sum_by-cons}
 use Rattle.sf_world.specs.Counts.{Rose, both}
 use Rattle.sf_world.specs.Views.{Gave, InputsView, IsGiven, NotAsked, NotGiven, SourceView, TakesBack}
@@ -123,14 +123,11 @@ keep_unread names sources more i m m' i' f g t =
     }
 
 -- the name of a number among names
-pub name_at : {X : Type 0} (f : X → List ℕ) (xs : List X) (n : ℕ) (x : X) → n < length xs → x ≡ get_or xs n x → get_or (map f xs) n (f x) ≡ f x
-name_at f xs n x lt is = get_or-map f xs n x (f x) lt ∙ ap f (sym is)
+pub name_there : (names : List (List ℕ)) (n : ℕ) (name : List ℕ) → n < length names → name ≡ get_or names n name → slice_get names n ≡ Some name
+name_there names n name lt is = slice_get-get_or names n name lt ∙ ap (λ (y : List ℕ). Some y) (sym is)
 
-pub name_there : {X : Type 0} (f : X → List ℕ) (xs : List X) (n : ℕ) (x : X) → n < length xs → x ≡ get_or xs n x → slice_get (map f xs) n ≡ Some (f x)
-name_there f xs n x lt is = slice_get-get_or (map f xs) n (f x) (omega (arith, lt, length-map xs f)) ∙ ap (λ (y : List ℕ). Some y) (name_at f xs n x lt is)
-
-pub next_name : {X : Type 0} (f : X → List ℕ) (xs : List X) (n : ℕ) (x : X) → n < length xs → x ≡ get_or xs n x → take (n + 1) (map f xs) ≡ take n (map f xs) ++ f x ∷ []
-next_name f xs n x lt is = take_more (map f xs) n (f x) (omega (arith, lt, length-map xs f)) ∙ ap (λ (y : List ℕ). take n (map f xs) ++ y ∷ []) (name_at f xs n x lt is)
+pub next_name : (names : List (List ℕ)) (n : ℕ) (name : List ℕ) → n < length names → name ≡ get_or names n name → take (n + 1) names ≡ take n names ++ name ∷ []
+next_name names n name lt is = take_more names n name lt ∙ ap (λ (y : List ℕ). take n names ++ y ∷ []) (sym is)
 
 -- What a fetch that is denied does to the inputs.
 pub record DeniedOne (name : List ℕ) (denied : Denied) (before after : InputsView) : Type 0 where

@@ -15,14 +15,15 @@ use Rattle.sf_meaning.specs.Rows.{held_as}
 use Rattle.sf_series.specs.declared.report.Report.{Report}
 use Rattle.sf_world.specs.Views.{InputsView, ShelfView, SourceView}
 use Rattle.sf_record.specs.Input.{given_of}
-use Rattle.sf_record.specs.Said.{Said, said_in, usual}
+use Rattle.sf_record.specs.Said.{Said, said_in}
 use Rattle.sf_record.specs.Serial.{AllRead, SaysIn, WasRead, answer_by, filled, lists_of, lowest_fault}
 use Rattle.sf_record.specs.declared.faults.InputFault.{InputFault}
 use Rattle.sf_record.specs.declared.faults.InputFault.TheVariants.{Coded, Setup as SetupRefused, Sample as SampleRefused}
 use Rattle.sf_record.specs.declared.faults.TrackFault.{TrackFault}
 use Rattle.sf_record.specs.declared.serial_end.SerialOutcome.TheVariants as outcomes
+use Rattle.sf_words.specs.declared.command.RecordAsked.{RecordAsked}
 use Rattle.sf_app.specs.Lending.{AreGiven}
-use Rattle.sf_app.specs.RecordEnds.{HoldsInputs, IsHeld, Performs, Records}
+use Rattle.sf_app.specs.RecordEnds.{HoldsInputs, IsHeld, Performs, Records, options_of}
 use Rattle.sf_app.specs.declared.status.Status.{Status}
 use Rattle.sf_app.specs.declared.status.Status.TheVariants as statuses
 use Rattle.sf_app.proofs.Recording.{source_at}
@@ -150,29 +151,29 @@ list_at first options (s ∷ setups) (r ∷ reads) (suc n) read e at =
 list_samples : (given : Given) (samples : List Stored) → samples_of (filled (chunks given samples)) ≡ samples
 list_samples given samples = filled_samples (chunks given samples) ∙ chunks_joined given 0 [] samples
 
-held_at : (holds : List ℕ → Option (List ℕ)) (names : List (List ℕ)) (sources back : List SourceView) (setups : List TrackSetup) (reads : List Said) (files : List (List ℕ)) (track : ℕ) (name bytes : List ℕ)
-    → AreGiven holds names sources → AllRead 0 usual sources back reads → map (λ r. r.setup) reads ≡ map Some setups → outcomes.Done ≡ lowest_fault 0 (map (λ r. r.fault) reads)
-    → (track < length setups → joined files track ≡ Some (map held_as (samples_of (get_or (lists_of 0 usual setups reads) track [])))) → slice_get names track ≡ Some name → holds name ≡ Some bytes
-    → IsHeld track (said_in track usual bytes) files
-held_at holds names sources back setups reads files track name bytes given all taken done whole at held =
+held_at : (options : Options) (holds : List ℕ → Option (List ℕ)) (names : List (List ℕ)) (sources back : List SourceView) (setups : List TrackSetup) (reads : List Said) (files : List (List ℕ)) (track : ℕ) (name bytes : List ℕ)
+    → AreGiven holds names sources → AllRead 0 options sources back reads → map (λ r. r.setup) reads ≡ map Some setups → outcomes.Done ≡ lowest_fault 0 (map (λ r. r.fault) reads)
+    → (track < length setups → joined files track ≡ Some (map held_as (samples_of (get_or (lists_of 0 options setups reads) track [])))) → slice_get names track ≡ Some name → holds name ≡ Some bytes
+    → IsHeld track (said_in track options bytes) files
+held_at options holds names sources back setups reads files track name bytes given all taken done whole at held =
     let x = source_at holds names sources track name given at in
-    let y = read_at 0 usual sources back reads track x.source all x.there in
+    let y = read_at 0 options sources back reads track x.source all x.there in
     let here : 0 + track ≡ track = omega arith in
-    let was : WasRead track usual x.source y.end y.read = subst (λ (k : ℕ). WasRead k usual x.source y.end y.read) here y.was in
+    let was : WasRead track options x.source y.end y.read = subst (λ (k : ℕ). WasRead k options x.source y.end y.read) here y.was in
     let none : y.read.fault ≡ None = no_fault_at 0 reads track y.read done y.there in
-    let said : y.read ≡ said_in track usual bytes = whole_said track usual x.source y.end bytes y.read (x.content ∙ held) none was in
-    let l = list_at 0 usual setups reads track y.read taken y.there in
+    let said : y.read ≡ said_in track options bytes = whole_said track options x.source y.end bytes y.read (x.content ∙ held) none was in
+    let l = list_at 0 options setups reads track y.read taken y.there in
     record {
       whole = ap (λ (r : Said). r.fault) (sym said) ∙ none;
       held =
           whole l.few ∙ ap (λ (cs : List Chunk). Some (map held_as (samples_of cs))) l.list
-          ∙ ap (λ (ss : List Stored). Some (map held_as ss)) (list_samples (given_of (0 + track) l.setup usual) y.read.samples ∙ ap (λ (r : Said). r.samples) said);
+          ∙ ap (λ (ss : List Stored). Some (map held_as ss)) (list_samples (given_of (0 + track) l.setup options) y.read.samples ∙ ap (λ (r : Said). r.samples) said);
     }
 
 -- the files of a recording that is done hold the samples of its inputs
-pub holds_inputs : (names : List (List ℕ)) (report : Report) (i i' : InputsView) (s s' : ShelfView) (before : List (List ℕ)) → Records names outcomes.Done report i i' s s' → s.files ≡ Some before
-    → HoldsInputs names i before s'
-holds_inputs names report i i' s s' before r told =
+pub holds_inputs : (asked : RecordAsked) (report : Report) (i i' : InputsView) (s s' : ShelfView) (before : List (List ℕ)) → Records asked outcomes.Done report i i' s s' → s.files ≡ Some before
+    → HoldsInputs asked i before s'
+holds_inputs asked report i i' s s' before r told =
     let setups : List TrackSetup = r.ends.0 in
     let reads : List Said = r.ends.1 in
     let all = r.ends.2 in
@@ -180,16 +181,16 @@ holds_inputs names report i i' s s' before r told =
     record {
       files = w.files;
       kept = w.gained.kept;
-      held = λ track name bytes at held. held_at i.holds names r.sources r.back setups reads w.files track name bytes r.lent.given all.read all.taken r.ends.3
+      held = λ track name bytes at held. held_at (options_of asked) i.holds asked.inputs r.sources r.back setups reads w.files track name bytes r.lent.given all.read all.taken r.ends.3
           (λ lt. w.whole track (subst (λ (ss : List TrackSetup). track < length ss) (sym all.own.0) lt)) at held;
     }
 
 -- what a recording answers before the text: at a report the files hold the inputs, and another answer isn't Done
-pub held_ok : (names : List (List ℕ)) (result : Result Report Status) (i i' : InputsView) (s s' : ShelfView) → Performs names result i i' s s'
-    → IfOk result (λ report. (before : List (List ℕ)) → s.files ≡ Some before → HoldsInputs names i before s')
-held_ok names (Ok report) i i' s s' performs = λ before told. holds_inputs names report i i' s s' before performs told
-held_ok names (Err status) i i' s s' performs = tt
+pub held_ok : (asked : RecordAsked) (result : Result Report Status) (i i' : InputsView) (s s' : ShelfView) → Performs asked result i i' s s'
+    → IfOk result (λ report. (before : List (List ℕ)) → s.files ≡ Some before → HoldsInputs asked i before s')
+held_ok asked (Ok report) i i' s s' performs = λ before told. holds_inputs asked report i i' s s' before performs told
+held_ok asked (Err status) i i' s s' performs = tt
 
-pub not_done : (names : List (List ℕ)) (result : Result Report Status) (i i' : InputsView) (s s' : ShelfView) → Performs names result i i' s s' → IfErr result (λ status. status ≢ statuses.Done)
-not_done names (Ok report) i i' s s' performs = tt
-not_done names (Err status) i i' s s' performs = λ e. (let P : Status → Type 0 = λ x. Performs names (Err x) i i' s s' in subst P e performs)
+pub not_done : (asked : RecordAsked) (result : Result Report Status) (i i' : InputsView) (s s' : ShelfView) → Performs asked result i i' s s' → IfErr result (λ status. status ≢ statuses.Done)
+not_done asked (Ok report) i i' s s' performs = tt
+not_done asked (Err status) i i' s s' performs = λ e. (let P : Status → Type 0 = λ x. Performs asked (Err x) i i' s s' in subst P e performs)

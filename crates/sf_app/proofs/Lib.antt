@@ -1,6 +1,7 @@
 pub mod Gathering
 pub mod Fetching
-pub mod Naming
+pub mod Ranges
+pub mod Ending
 pub mod Holding
 pub mod Performing
 pub mod Recording

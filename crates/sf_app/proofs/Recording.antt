@@ -11,17 +11,18 @@ use Rattle.sf_world.specs.Counts.{Rose, both}
 use Rattle.sf_world.specs.Views.{InputsView, ShelfView, SourceView}
 use Rattle.sf_record.specs.Called.{NoneRose, NothingFailed, TellBytes, called_for}
 use Rattle.sf_record.specs.Input.{IsOfBytes, read_fault}
-use Rattle.sf_record.specs.Said.{Said, usual}
+use Rattle.sf_record.specs.Said.{Said}
 use Rattle.sf_record.specs.Serial.{AllRead, ComeBack, HasFault, KeepsMade, SerialEnds, WasRead, answer_at, answer_by, asked_for, gave, lowest_fault}
 use Rattle.sf_record.specs.declared.faults.InputFault.{InputFault}
 use Rattle.sf_record.specs.declared.faults.InputFault.TheVariants.{Coded, Setup as SetupRefused, Sample as SampleRefused}
 use Rattle.sf_record.specs.declared.faults.TrackFault.{TrackFault}
 use Rattle.sf_record.specs.declared.serial_end.SerialOutcome.{SerialOutcome}
 use Rattle.sf_record.specs.declared.serial_end.SerialOutcome.TheVariants as outcomes
+use Rattle.sf_words.specs.declared.command.RecordAsked.{RecordAsked}
 use Rattle.sf_app.specs.AnswerText.{Answered}
 use Rattle.sf_app.specs.Lending.{AreGiven, FaultyAt, Lent, faults_of, total}
 use Rattle.sf_app.specs.Outside.{KeepInputs}
-use Rattle.sf_app.specs.RecordEnds.{AreHeld, Performs, Records, answered, status_of, usual_limits}
+use Rattle.sf_app.specs.RecordEnds.{AreHeld, Performs, Records, answered, limits_of, options_of, status_of}
 use Rattle.sf_app.specs.declared.status.Status.{Status}
 use Rattle.sf_app.specs.declared.status.Status.TheVariants as statuses
 use Rattle.sf_app.specs.inner.Fetching.{Fetched, TakesAllBack, Unfetched}
@@ -145,12 +146,12 @@ header_rose track options before after (inl read) = read.failed refl
 header_rose track options before after (inr failed) = failed.1
 
 -- the source of an input of which a read failed
-source_rose : (input : ℕ) (sources back : List SourceView) (s s' : ShelfView) (report : Report)
-    → SerialEnds (asked_for usual usual_limits sources s) (gave back s' report) (outcomes.ReadFault input) → RoseAt 0 input sources back
-source_rose input sources back s s' report (inl h) =
+source_rose : (input : ℕ) (options : Options) (limits : Limits) (sources back : List SourceView) (s s' : ShelfView) (report : Report)
+    → SerialEnds (asked_for options limits sources s) (gave back s' report) (outcomes.ReadFault input) → RoseAt 0 input sources back
+source_rose input options limits sources back s s' report (inl h) =
     let here : input ≡ 0 + input = omega arith in
-    record { n = input; at = here; source = h.before; there = h.there; end = h.after; back = h.back; rose = header_rose input usual h.before h.after h.read }
-source_rose input sources back s s' report (inr r) = read_rose 0 input usual sources back r.1 r.2.read r.3
+    record { n = input; at = here; source = h.before; there = h.there; end = h.after; back = h.back; rose = header_rose input options h.before h.after h.read }
+source_rose input options limits sources back s s' report (inr r) = read_rose 0 input options sources back r.1 r.2.read r.3
 
 count_there : (back : List SourceView) (n : ℕ) (source : SourceView) → slice_get back n ≡ Some source → slice_get (faults_of back) n ≡ Some source.faults
 count_there [] n source at = cc
@@ -188,26 +189,26 @@ faulty_at names input sources back i i' lent r =
       failed = rose_all i.faults i'.faults (total (faults_of back)) r.end.faults lent.faults some (count_within back r.n r.end r.back);
     }
 
--- what stands of a recording over the usual limits
-pub records_by : (names : List (List ℕ)) (limits : Limits) (outcome : SerialOutcome) (report : Report) (sources back : List SourceView) (i i' : InputsView) (s s' : ShelfView) → limits ≡ usual_limits → Lent names sources back i i'
-    → SerialEnds (asked_for usual limits sources s) (gave back s' report) outcome → KeepsMade limits.stem s s' → Records names outcome report i i' s s'
-records_by names limits outcome report sources back i i' s s' is lent ends kept =
+-- what stands of a recording over its limits
+pub records_by : (asked : RecordAsked) (limits : Limits) (outcome : SerialOutcome) (report : Report) (sources back : List SourceView) (i i' : InputsView) (s s' : ShelfView) → limits ≡ limits_of asked → Lent asked.inputs sources back i i'
+    → SerialEnds (asked_for (options_of asked) limits sources s) (gave back s' report) outcome → KeepsMade limits.stem s s' → Records asked outcome report i i' s s'
+records_by asked limits outcome report sources back i i' s s' is lent ends kept =
     record {
       sources = sources;
       back = back;
       lent = lent;
-      ends = (let P : Limits → Type 0 = λ l. SerialEnds (asked_for usual l sources s) (gave back s' report) outcome in subst P is ends);
+      ends = (let P : Limits → Type 0 = λ l. SerialEnds (asked_for (options_of asked) l sources s) (gave back s' report) outcome in subst P is ends);
       kept = subst (λ (l : Limits). KeepsMade l.stem s s') is kept;
     }
 
 -- how inputs were recorded, by the outcome
-pub performs_by : (names : List (List ℕ)) (outcome : SerialOutcome) (report : Report) (i i' : InputsView) (s s' : ShelfView) → Records names outcome report i i' s s' → Performs names (answered outcome report) i i' s s'
-performs_by names outcomes.Done report i i' s s' r = r
-performs_by names outcomes.WriteFault report i i' s s' r = ((report, r), r.ends.0)
-performs_by names (outcomes.Limit limit) report i i' s s' r = (report, r)
-performs_by names (outcomes.Refused track fault) report i i' s s' r = (report, r)
-performs_by names (outcomes.ReadFault input) report i i' s s' r = ((report, r), faulty_at names input r.sources r.back i i' r.lent (source_rose input r.sources r.back s s' report r.ends))
-performs_by names outcomes.NoMemory report i i' s s' r = inr (report, r)
+pub performs_by : (asked : RecordAsked) (outcome : SerialOutcome) (report : Report) (i i' : InputsView) (s s' : ShelfView) → Records asked outcome report i i' s s' → Performs asked (answered outcome report) i i' s s'
+performs_by asked outcomes.Done report i i' s s' r = r
+performs_by asked outcomes.WriteFault report i i' s s' r = ((report, r), r.ends.0)
+performs_by asked (outcomes.Limit limit) report i i' s s' r = (report, r)
+performs_by asked (outcomes.Refused track fault) report i i' s s' r = (report, r)
+performs_by asked (outcomes.ReadFault input) report i i' s s' r = ((report, r), faulty_at asked.inputs input r.sources r.back i i' r.lent (source_rose input (options_of asked) (limits_of asked) r.sources r.back s s' report r.ends))
+performs_by asked outcomes.NoMemory report i i' s s' r = inr (report, r)
 
 -- ---- the answer that the bytes call for
 
@@ -238,9 +239,9 @@ none_risen holds (name ∷ names) (s ∷ sources) (a ∷ back) given came none =
     let rest : total (faults_of back) ≡ 0 = omega (arith, all, none) in
     (not_risen s.faults a.faults (total (faults_of (a ∷ back))) (total (faults_of back)) given.0.faults all none, none_risen holds names sources back given.1 came.1 rest)
 
-pub nothing_failed : (names : List (List ℕ)) (sources back : List SourceView) (report : Report) (i i' : InputsView) (s s' : ShelfView) → Lent names sources back i i'
-    → (Rose i.faults i'.faults → ⊥) → (Rose s.faults s'.faults → ⊥) → NothingFailed (asked_for usual usual_limits sources s) (gave back s' report)
-nothing_failed names sources back report i i' s s' lent not_read not_written =
+pub nothing_failed : (names : List (List ℕ)) (options : Options) (limits : Limits) (sources back : List SourceView) (report : Report) (i i' : InputsView) (s s' : ShelfView) → Lent names sources back i i'
+    → (Rose i.faults i'.faults → ⊥) → (Rose s.faults s'.faults → ⊥) → NothingFailed (asked_for options limits sources s) (gave back s' report)
+nothing_failed names options limits sources back report i i' s s' lent not_read not_written =
     record {
       sources = none_risen i.holds names sources back lent.given lent.came_back (no_faults i.faults (total (faults_of back)) i'.faults lent.faults not_read);
       shelf = not_written;
@@ -260,14 +261,14 @@ answered_by (outcomes.ReadFault input) report called (inr e) = inr (ap status_of
 answered_by outcomes.NoMemory report called e = inl refl
 
 -- where nothing failed the answer is the one that the bytes call for, or want of memory
-pub complete_by : (names all : List (List ℕ)) (limits : Limits) (outcome : SerialOutcome) (report : Report) (sources back : List SourceView) (i i' : InputsView) (s s' : ShelfView) → limits ≡ usual_limits → Lent names sources back i i'
-    → AreHeld i names all → (Rose i.faults i'.faults → ⊥) → (Rose s.faults s'.faults → ⊥)
-    → ((inputs : List (List ℕ)) → TellBytes sources inputs → NothingFailed (asked_for usual limits sources s) (gave back s' report) → (outcome ≡ outcomes.NoMemory) ⊎ (outcome ≡ called_for usual limits inputs))
-    → Answered (answered outcome report) (status_of (called_for usual usual_limits all))
-complete_by names all limits outcome report sources back i i' s s' is lent held not_read not_written called =
-    let P : Limits → Type 0 = λ l. (inputs : List (List ℕ)) → TellBytes sources inputs → NothingFailed (asked_for usual l sources s) (gave back s' report) → (outcome ≡ outcomes.NoMemory) ⊎ (outcome ≡ called_for usual l inputs) in
-    answered_by outcome report (called_for usual usual_limits all)
-    (subst P is called all (bytes_told i names all sources lent.given held) (nothing_failed names sources back report i i' s s' lent not_read not_written))
+pub complete_by : (asked : RecordAsked) (all : List (List ℕ)) (limits : Limits) (outcome : SerialOutcome) (report : Report) (sources back : List SourceView) (i i' : InputsView) (s s' : ShelfView) → limits ≡ limits_of asked → Lent asked.inputs sources back i i'
+    → AreHeld i asked.inputs all → (Rose i.faults i'.faults → ⊥) → (Rose s.faults s'.faults → ⊥)
+    → ((inputs : List (List ℕ)) → TellBytes sources inputs → NothingFailed (asked_for (options_of asked) limits sources s) (gave back s' report) → (outcome ≡ outcomes.NoMemory) ⊎ (outcome ≡ called_for (options_of asked) limits inputs))
+    → Answered (answered outcome report) (status_of (called_for (options_of asked) (limits_of asked) all))
+complete_by asked all limits outcome report sources back i i' s s' is lent held not_read not_written called =
+    let P : Limits → Type 0 = λ l. (inputs : List (List ℕ)) → TellBytes sources inputs → NothingFailed (asked_for (options_of asked) l sources s) (gave back s' report) → (outcome ≡ outcomes.NoMemory) ⊎ (outcome ≡ called_for (options_of asked) l inputs) in
+    answered_by outcome report (called_for (options_of asked) (limits_of asked) all)
+    (subst P is called all (bytes_told i asked.inputs all sources lent.given held) (nothing_failed asked.inputs (options_of asked) (limits_of asked) sources back report i i' s s' lent not_read not_written))
 
 -- ---- where a source isn't given
 
@@ -276,18 +277,18 @@ err_of : {A : Type 0} (r : Result A Status) (e : Status) (P : Result A Status �
 err_of (Ok x) e P is p = absurd is
 err_of (Err z) e P is p = subst (λ (y : Status). P (Err y)) (sym is) p
 
-performs_early : (names : List (List ℕ)) (status : Status) (i i' : InputsView) (s : ShelfView) → Unfetched names status i i' → Performs names (Err status) i i' s s
-performs_early names statuses.Done i i' s u = absurd u
-performs_early names (statuses.Usage fault) i i' s u = absurd u
-performs_early names (statuses.OpenFault input) i i' s u = (refl, u)
-performs_early names (statuses.ReadFault input) i i' s u = absurd u
-performs_early names statuses.WriteFault i i' s u = absurd u
-performs_early names (statuses.InputRefused track fault) i i' s u = absurd u
-performs_early names (statuses.MovieRefused fault) i i' s u = absurd u
-performs_early names (statuses.SampleRefused reader track sample at) i i' s u = absurd u
-performs_early names (statuses.LimitReached limit) i i' s u = absurd u
-performs_early names (statuses.PlanRefused reader command) i i' s u = absurd u
-performs_early names statuses.NoMemory i i' s u = inl (refl, u.0, u.1)
+performs_early : (asked : RecordAsked) (status : Status) (i i' : InputsView) (s : ShelfView) → Unfetched asked.inputs status i i' → Performs asked (Err status) i i' s s
+performs_early asked statuses.Done i i' s u = absurd u
+performs_early asked (statuses.Usage fault) i i' s u = absurd u
+performs_early asked (statuses.OpenFault input) i i' s u = (refl, u)
+performs_early asked (statuses.ReadFault input) i i' s u = absurd u
+performs_early asked statuses.WriteFault i i' s u = absurd u
+performs_early asked (statuses.InputRefused track fault) i i' s u = absurd u
+performs_early asked (statuses.MovieRefused fault) i i' s u = absurd u
+performs_early asked (statuses.SampleRefused reader track sample at) i i' s u = absurd u
+performs_early asked (statuses.LimitReached limit) i i' s u = absurd u
+performs_early asked (statuses.PlanRefused reader command) i i' s u = absurd u
+performs_early asked statuses.NoMemory i i' s u = inl (refl, u.0, u.1)
 
 answered_early : (names : List (List ℕ)) (status called : Status) (i i' : InputsView) → Unfetched names status i i' → (Rose i.misses i'.misses → ⊥) → Answered {A = Report} (Err status) called
 answered_early names statuses.Done called i i' u not = absurd u
@@ -302,8 +303,11 @@ answered_early names (statuses.LimitReached limit) called i i' u not = absurd u
 answered_early names (statuses.PlanRefused reader command) called i i' u not = absurd u
 answered_early names statuses.NoMemory called i i' u not = inl refl
 
-pub performs_handed : (names : List (List ℕ)) (r : Result Report Status) (status : Status) (i i' : InputsView) (s : ShelfView) → IsErrAnd r (λ z. z ≡ status) → Unfetched names status i i' → Performs names r i i' s s
-performs_handed names r status i i' s is u = let P : Result Report Status → Type 0 = λ x. Performs names x i i' s s in err_of r status P is (performs_early names status i i' s u)
+pub performs_handed : (asked : RecordAsked) (names : List (List ℕ)) (r : Result Report Status) (status : Status) (i i' : InputsView) (s : ShelfView) → names ≡ asked.inputs → IsErrAnd r (λ z. z ≡ status)
+    → Unfetched names status i i' → Performs asked r i i' s s
+performs_handed asked names r status i i' s same is u =
+    let P : Result Report Status → Type 0 = λ x. Performs asked x i i' s s in
+    err_of r status P is (performs_early asked status i i' s (subst (λ (ns : List (List ℕ)). Unfetched ns status i i') same u))
 
 pub answered_handed : (names : List (List ℕ)) (r : Result Report Status) (status called : Status) (i i' : InputsView) → IsErrAnd r (λ z. z ≡ status) → Unfetched names status i i' → (Rose i.misses i'.misses → ⊥)
     → Answered r called

@@ -1,5 +1,5 @@
 -- How the extraction of plans from a movie ends.
-use Rattle.std.specs.Prelude.{◌≡◌, ℕ, ◌+◌, ◌⊎◌, List, [], ◌∷◌, length, codes, Option, Some, None, Result, Ok, Err}
+use Rattle.std.specs.Prelude.{◌≡◌, ℕ, ◌+◌, ◌⊎◌, List, [], ◌∷◌, length, Option, Some, None, Result, Ok, Err}
 use Rattle.sf_world.specs.Counts.{Rose}
 use Rattle.sf_world.specs.Views.{GivenBack, InputsView, NotAsked, Says, ShelfView}
 use Rattle.sf_meaning.specs.Movie.{Step, movie}
@@ -13,9 +13,11 @@ use Rattle.sf_reader.specs.Dumps.{readouts}
 use Rattle.sf_reader.specs.Extracted.{Extracted, KeptDumps}
 use Rattle.sf_reader.specs.declared.outcome.ExtractOutcome.{ExtractOutcome}
 use Rattle.sf_reader.specs.declared.outcome.ExtractOutcome.TheVariants as outcomes
+use Rattle.sf_words.specs.declared.command.ExtractAsked.{ExtractAsked}
 use Rattle.sf_app.specs.AnswerText.{TellsDone, dump_lines, line_of}
 use Rattle.sf_app.specs.Outside.{Faulty, KeepInputs, Missed, OfTold, Outside}
 use Rattle.sf_app.specs.Plans.{plans_from}
+use Rattle.sf_app.specs.Refused.{WordsRefused}
 use Rattle.sf_app.specs.declared.status.Status.{Status}
 use Rattle.sf_app.specs.declared.status.Status.TheVariants.{Done, Usage, OpenFault, ReadFault, WriteFault, InputRefused, MovieRefused, SampleRefused, LimitReached, PlanRefused, NoMemory}
 use Rattle.sf_app.specs.declared.status.UsageFault.{UsageFault}
@@ -25,10 +27,6 @@ pub record Extraction : Type 0 where
   pub name : List ℕ
   pub plans : List (List Command)
   pub stem : List ℕ
-
--- how the names of dumps begin where nothing else is asked for
-abbrev pub usual_stem : List ℕ
-usual_stem = codes "out"
 
 -- The movie was given, plans were read out of it with this outcome and these lengths of dumps, and it was given back.
 pub record ExtractsSo (e : Extraction) (outcome : ExtractOutcome) (lengths : List ℕ) (inputs inputs' : InputsView) (shelf shelf' : ShelfView) : Type 0 where
@@ -122,18 +120,11 @@ pub record PlansEnd (e : Extraction) (result : Status) (b a : Outside) : Type 0 
       → ¬ Rose b.shelf.faults a.shelf.faults → ¬ Rose b.text.faults a.text.faults
       → (result ≡ NoMemory) ⊎ (result ≡ answer_for file e.plans)
 
--- The words of plans were refused, or memory ran out before all were read; only the text is touched.
-pub record PlansRefused (fault : UsageFault) (result : Status) (b a : Outside) : Type 0 where
-  pub answer : (result ≡ Usage fault) ⊎ (result ≡ NoMemory)
-  pub inputs : a.inputs ≡ b.inputs
-  pub shelf : a.shelf ≡ b.shelf
-  pub says : Says (line_of result) b.text a.text
+-- what stands after an extraction, by the plans that its words say: the first word that isn't a plan is refused, and then only the text is touched
+abbrev pub EndsBy : ExtractAsked → Result (List (List Command)) UsageFault → Status → Outside → Outside → Type 0
+EndsBy asked (Err fault) result b a = WordsRefused fault result b a
+EndsBy asked (Ok plans) result b a = PlansEnd (record { name = asked.movie; plans = plans; stem = asked.out }) result b a
 
--- what stands after an extraction, by the plans that its words say
-abbrev pub EndsBy : List ℕ → Result (List (List Command)) UsageFault → Status → Outside → Outside → Type 0
-EndsBy name (Err fault) result b a = PlansRefused fault result b a
-EndsBy name (Ok plans) result b a = PlansEnd (record { name = name; plans = plans; stem = usual_stem }) result b a
-
--- Plans, as words say them, were extracted from the movie of a name, with this answer.
-abbrev pub ExtractEnds : List ℕ → List (List ℕ) → Status → Outside → Outside → Type 0
-ExtractEnds name words result b a = EndsBy name (plans_from 0 words) result b a
+-- Plans, as words say them, were extracted from a movie, with this answer.
+abbrev pub ExtractEnds : ExtractAsked → Status → Outside → Outside → Type 0
+ExtractEnds asked result b a = EndsBy asked (plans_from 0 asked.plans) result b a

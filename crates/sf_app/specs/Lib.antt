@@ -1,9 +1,9 @@
 pub mod inner
-pub mod Words
 pub mod Status
 pub mod AnswerText
 pub mod ListText
 pub mod Outside
+pub mod Refused
 pub mod Lending
 pub mod RecordEnds
 pub mod Plans

@@ -1,5 +1,5 @@
 -- What only ties the code to the definitions.
-pub mod Commands
+pub mod Asked
 pub mod Extraction
 pub mod Fetching
 pub mod Gathered

@@ -1,23 +1,21 @@
 //! The command `extract`.
 
-ghost use Rattle.std.specs.Prelude.{◌≡◌, ◌≢◌, ℕ, ◌≤◌, List, length, map, string_bytes, Some, Ok, IfOk, IfErr, MatchResult};
+ghost use Rattle.std.specs.Prelude.{◌≡◌, ◌≢◌, ℕ, ◌≤◌, List, length, Some, Ok, IfOk, IfErr, MatchResult};
 ghost use Rattle.sf_app.specs.AnswerText.{Answered, TellsDone, dump_lines};
 ghost use Rattle.sf_app.specs.ExtractEnds.{ExtractEnds, Extracts, PlansEnd, ReadsOut, answer_for};
 ghost use Rattle.sf_app.specs.Outside.{KeepInputs, outside_of};
 ghost use Rattle.sf_app.specs.Plans.{plans_from};
-ghost use Rattle.sf_app.specs.inner.Extraction.{NotRead, answered, unread, usual_extraction};
+ghost use Rattle.sf_app.specs.inner.Extraction.{NotRead, answered, extraction, unread};
 ghost use Rattle.sf_world.specs.Counts.{Rose};
 
 use super::answer_text::{put_answer, put_dumps, told};
 use super::{Status, UsageFault};
 use sf_extract::{Plan, PlanFault, read_plan};
-use sf_list::Items;
+use sf_list::{Items, Text};
 use sf_reader::{ExtractOutcome, extract_direct, files_are_read_out};
+use sf_words::ExtractAsked;
 use sf_world::{Denied, Inputs, Shelf, Sink};
 use std::alloc::Global;
-
-/// How the names of dumps begin where nothing else is asked for.
-const USUAL_STEM: &str = "out";
 
 // The answer where the word of a plan isn't read.
 fn unread(reader: u32, fault: PlanFault) -> Status
@@ -30,9 +28,9 @@ fn unread(reader: u32, fault: PlanFault) -> Status
 }
 
 // The plans that words say, or the first word that isn't one.
-fn read_plans(alloc: Global, words: &[String]) -> Result<Vec<Plan>, Status>
+fn read_plans(alloc: Global, words: &[Text]) -> Result<Vec<Plan>, Status>
     requires few { length words.now ≤ 16 }
-    ensures read { MatchResult result (λ plans. plans_from 0 (map string_bytes words.now) ≡ Ok plans.items) (NotRead (plans_from 0 (map string_bytes words.now))) }
+    ensures read { MatchResult result (λ plans. plans_from 0 words.now ≡ Ok plans.items) (NotRead (plans_from 0 words.now)) }
     ensures count { IfOk result (λ plans. length plans.items ≡ length words.now) }
 {
     let Ok(mut plans) = Vec::with_capacity(alloc, words.len()) else {
@@ -76,28 +74,28 @@ fn lengths_of(outcome: ExtractOutcome, lengths: Items<u64>) -> Result<Items<u64>
 fn extract_plans<I: Inputs, O: Shelf>(
     alloc: Global,
     inputs: &mut I,
-    name: &str,
+    asked: &ExtractAsked,
     plans: Vec<Plan>,
     shelf: &mut O,
 ) -> Result<Items<u64>, Status>
     requires some { 1 ≤ length plans.items }
     requires few { length plans.items ≤ 16 }
-    ensures extracts { Extracts (usual_extraction name.now plans.items) result (I.seen inputs.old) (I.seen inputs.new) (O.seen shelf.old) (O.seen shelf.new) }
+    ensures extracts { Extracts (extraction asked.now plans.items) result (I.seen inputs.old) (I.seen inputs.new) (O.seen shelf.old) (O.seen shelf.new) }
     ensures inputs { KeepInputs (I.seen inputs.old) (I.seen inputs.new) }
-    ensures done { IfOk result (λ lengths. (file : List ℕ) → (I.seen inputs.old).holds name.now ≡ Some file
-        → ReadsOut file (usual_extraction name.now plans.items) (O.seen shelf.old) (O.seen shelf.new)) }
+    ensures done { IfOk result (λ lengths. (file : List ℕ) → (I.seen inputs.old).holds asked.now.movie ≡ Some file
+        → ReadsOut file (extraction asked.now plans.items) (O.seen shelf.old) (O.seen shelf.new)) }
     ensures other { IfErr result (λ status. status ≢ Status.Done) }
-    ensures complete { (file : List ℕ) → (I.seen inputs.old).holds name.now ≡ Some file
+    ensures complete { (file : List ℕ) → (I.seen inputs.old).holds asked.now.movie ≡ Some file
         → ¬ Rose (I.seen inputs.old).misses (I.seen inputs.new).misses → ¬ Rose (I.seen inputs.old).faults (I.seen inputs.new).faults
         → ¬ Rose (O.seen shelf.old).faults (O.seen shelf.new).faults → Answered result (answer_for file plans.items) }
 {
     files_are_read_out();
-    let source = match inputs.fetch(name) {
+    let source = match inputs.fetch(asked.movie.as_str()) {
         Ok(source) => source,
         Err(Denied::Failed) => return Err(Status::OpenFault { input: 0 }),
         Err(Denied::NoMemory) => return Err(Status::NoMemory),
     };
-    let end = extract_direct(alloc, source, plans, USUAL_STEM, shelf);
+    let end = extract_direct(alloc, source, plans, asked.out.as_str(), shelf);
     inputs.give_back(end.source);
     lengths_of(end.outcome, end.dumps)
 }
@@ -113,17 +111,17 @@ fn tell_dumps<T: Sink>(alloc: Global, text: &mut T, lengths: &Items<u64>) -> Sta
 fn run_plans<I: Inputs, O: Shelf, T: Sink>(
     alloc: Global,
     inputs: &mut I,
-    name: &str,
+    asked: &ExtractAsked,
     plans: Vec<Plan>,
     shelf: &mut O,
     text: &mut T,
 ) -> Status
     requires some { 1 ≤ length plans.items }
     requires few { length plans.items ≤ 16 }
-    ensures { PlansEnd (usual_extraction name.now plans.items) result (outside_of (I.seen inputs.old) (O.seen shelf.old) (T.seen text.old))
+    ensures { PlansEnd (extraction asked.now plans.items) result (outside_of (I.seen inputs.old) (O.seen shelf.old) (T.seen text.old))
         (outside_of (I.seen inputs.new) (O.seen shelf.new) (T.seen text.new)) }
 {
-    match extract_plans(alloc, inputs, name, plans, shelf) {
+    match extract_plans(alloc, inputs, asked, plans, shelf) {
         Ok(lengths) => tell_dumps(alloc, text, &lengths),
         Err(status) => {
             let _put = put_answer(alloc, text, &status);
@@ -137,18 +135,17 @@ fn run_plans<I: Inputs, O: Shelf, T: Sink>(
 pub(crate) fn run_extract<I: Inputs, O: Shelf, T: Sink>(
     alloc: Global,
     inputs: &mut I,
-    name: &str,
-    words: &[String],
+    asked: &ExtractAsked,
     shelf: &mut O,
     text: &mut T,
 ) -> Status
-    requires some { 1 ≤ length words.now }
-    requires few { length words.now ≤ 16 }
-    ensures { ExtractEnds name.now (map string_bytes words.now) result (outside_of (I.seen inputs.old) (O.seen shelf.old) (T.seen text.old))
+    requires some { 1 ≤ length asked.now.plans }
+    requires few { length asked.now.plans ≤ 16 }
+    ensures { ExtractEnds asked.now result (outside_of (I.seen inputs.old) (O.seen shelf.old) (T.seen text.old))
         (outside_of (I.seen inputs.new) (O.seen shelf.new) (T.seen text.new)) }
 {
-    match read_plans(alloc, words) {
-        Ok(plans) => run_plans(alloc, inputs, name, plans, shelf, text),
+    match read_plans(alloc, asked.plans.as_slice()) {
+        Ok(plans) => run_plans(alloc, inputs, asked, plans, shelf, text),
         Err(status) => {
             let _put = put_answer(alloc, text, &status);
             status

@@ -13,7 +13,6 @@ mod movie;
 mod program;
 mod record;
 mod status;
-mod words;
 
 pub use movie::{ListFault, list_movie};
 pub use program::run;

@@ -1,12 +1,13 @@
 //! The command `record`.
 
-ghost use Rattle.std.specs.Prelude.{◌≡◌, ◌≢◌, ℕ, ◌≤◌, List, length, map, slice_get, string_bytes, Some, None, Ok, Err, IfOk, IfErr};
+ghost use Rattle.std.specs.Prelude.{◌≡◌, ◌≢◌, ℕ, ◌≤◌, List, length, map, slice_get, Some, None, Ok, Err, IfOk, IfErr};
 ghost use Rattle.sf_app.specs.AnswerText.{Answered, TellsDone, done_lines};
 ghost use Rattle.sf_app.specs.Outside.{KeepInputs, outside_of};
-ghost use Rattle.sf_app.specs.RecordEnds.{AreHeld, HoldsInputs, Performs, RecordEnds, answered, status_of, usual_limits};
+ghost use Rattle.sf_app.specs.RecordEnds.{AreHeld, HoldsInputs, Performs, RecordEnds, answered, limits_of, options_of, status_of};
+ghost use Rattle.sf_app.specs.inner.Asked.{IsInRange};
 ghost use Rattle.sf_app.specs.inner.Fetching.{Fetched, TakesAllBack, Unfetched, unfetched};
 ghost use Rattle.sf_record.specs.Called.{called_for};
-ghost use Rattle.sf_record.specs.Said.{said_in, usual};
+ghost use Rattle.sf_record.specs.Said.{said_in};
 ghost use Rattle.sf_series.specs.Series.{AreLimits};
 ghost use Rattle.sf_world.specs.Counts.{Rose};
 
@@ -16,25 +17,21 @@ use sf_gather::Options;
 use sf_list::Text;
 use sf_record::{SerialOutcome, record_serial};
 use sf_series::{Limits, Report};
+use sf_words::RecordAsked;
 use sf_world::{Denied, Inputs, Shelf, Sink};
 use std::alloc::{AllocError, Global};
 
-/// How samples are put into chunks where nothing else is asked for: of at most a second, from the start 0 on.
-const USUAL: Options = Options {
-    start_us: 0,
-    interleave_us: 1_000_000,
-};
-
-// The limits where nothing else is asked for: one file of whatever length.
-fn usual_limits(alloc: Global) -> Result<Limits, AllocError>
-    ensures limits { IfOk result (λ limits. limits ≡ usual_limits) }
+// The limits of the files of a recording.
+fn limits_of(alloc: Global, asked: &RecordAsked) -> Result<Limits, AllocError>
+    requires { IsInRange asked.now }
+    ensures limits { IfOk result (λ limits. limits ≡ limits_of asked.now) }
     ensures within { IfOk result AreLimits }
 {
     Ok(Limits {
-        max_bytes: 0,
-        max_duration_us: 0,
-        max_files: 1,
-        stem: Text::from_str(alloc, "out")?,
+        max_bytes: asked.numbers.max_bytes,
+        max_duration_us: asked.numbers.max_duration_us,
+        max_files: asked.numbers.max_files as u32,
+        stem: Text::from_str(alloc, asked.out.as_str())?,
     })
 }
 
@@ -62,12 +59,12 @@ fn unfetched(number: u32, denied: Denied) -> Status
 fn fetch_all<I: Inputs>(
     alloc: Global,
     inputs: &mut I,
-    names: &[String],
+    names: &[Text],
 ) -> Result<Vec<I::Src>, Status>
     requires few { length names.now ≤ 16 }
-    ensures fetched { IfOk result (λ sources. Fetched (map string_bytes names.now) (map (λ s. I.Src.seen s) sources.items) (I.seen inputs.old) (I.seen inputs.new)) }
+    ensures fetched { IfOk result (λ sources. Fetched names.now (map (λ s. I.Src.seen s) sources.items) (I.seen inputs.old) (I.seen inputs.new)) }
     ensures count { IfOk result (λ sources. length sources.items ≡ length names.now) }
-    ensures unfetched { IfErr result (λ status. Unfetched (map string_bytes names.now) status (I.seen inputs.old) (I.seen inputs.new)) }
+    ensures unfetched { IfErr result (λ status. Unfetched names.now status (I.seen inputs.old) (I.seen inputs.new)) }
     ensures inputs { KeepInputs (I.seen inputs.old) (I.seen inputs.new) }
 {
     let Ok(mut sources) = Vec::with_capacity(alloc, names.len()) else {
@@ -99,30 +96,33 @@ fn report_of(outcome: SerialOutcome, report: Report) -> Result<Report, Status>
     }
 }
 
-// Fetches the inputs of names, records them into files, and gives them back.
+// Fetches the inputs, records them into files, and gives them back.
 fn record_inputs<I: Inputs, O: Shelf>(
     alloc: Global,
     inputs: &mut I,
-    names: &[String],
+    asked: &RecordAsked,
     shelf: &mut O,
 ) -> Result<Report, Status>
-    requires some { 1 ≤ length names.now }
-    requires few { length names.now ≤ 16 }
-    ensures performs { Performs (map string_bytes names.now) result (I.seen inputs.old) (I.seen inputs.new) (O.seen shelf.old) (O.seen shelf.new) }
+    requires { IsInRange asked.now }
+    ensures performs { Performs asked.now result (I.seen inputs.old) (I.seen inputs.new) (O.seen shelf.old) (O.seen shelf.new) }
     ensures inputs { KeepInputs (I.seen inputs.old) (I.seen inputs.new) }
-    ensures done { IfOk result (λ report. (before : List (List ℕ)) → (O.seen shelf.old).files ≡ Some before → HoldsInputs (map string_bytes names.now) (I.seen inputs.old) before (O.seen shelf.new)) }
+    ensures done { IfOk result (λ report. (before : List (List ℕ)) → (O.seen shelf.old).files ≡ Some before → HoldsInputs asked.now (I.seen inputs.old) before (O.seen shelf.new)) }
     ensures other { IfErr result (λ status. status ≢ Status.Done) }
-    ensures header { (track : ℕ) (name bytes : List ℕ) → slice_get (map string_bytes names.now) track ≡ Some name → (I.seen inputs.old).holds name ≡ Some bytes
-        → (said_in track usual bytes).setup ≡ None → O.seen shelf.new ≡ O.seen shelf.old }
-    ensures complete { (all : List (List ℕ)) → AreHeld (I.seen inputs.old) (map string_bytes names.now) all
+    ensures header { (track : ℕ) (name bytes : List ℕ) → slice_get asked.now.inputs track ≡ Some name → (I.seen inputs.old).holds name ≡ Some bytes
+        → (said_in track (options_of asked.now) bytes).setup ≡ None → O.seen shelf.new ≡ O.seen shelf.old }
+    ensures complete { (all : List (List ℕ)) → AreHeld (I.seen inputs.old) asked.now.inputs all
         → ¬ Rose (I.seen inputs.old).misses (I.seen inputs.new).misses → ¬ Rose (I.seen inputs.old).faults (I.seen inputs.new).faults
-        → ¬ Rose (O.seen shelf.old).faults (O.seen shelf.new).faults → Answered result (status_of (called_for usual usual_limits all)) }
+        → ¬ Rose (O.seen shelf.old).faults (O.seen shelf.new).faults → Answered result (status_of (called_for (options_of asked.now) (limits_of asked.now) all)) }
 {
-    let Ok(limits) = usual_limits(alloc) else {
+    let Ok(limits) = limits_of(alloc, asked) else {
         return Err(Status::NoMemory);
     };
-    let sources = fetch_all(alloc, inputs, names)?;
-    let end = record_serial(alloc, sources, USUAL, limits, shelf);
+    let sources = fetch_all(alloc, inputs, asked.inputs.as_slice())?;
+    let options = Options {
+        start_us: asked.numbers.start_us,
+        interleave_us: asked.numbers.interleave_us,
+    };
+    let end = record_serial(alloc, sources, options, limits, shelf);
     give_all_back(inputs, end.sources);
     report_of(end.outcome, end.report)
 }
@@ -134,20 +134,19 @@ fn tell_done<T: Sink>(alloc: Global, text: &mut T, report: &Report) -> Status
     told(put_done(alloc, text, report))
 }
 
-/// Records the inputs of names, each as a track, into the files of a recording, and tells how it went.
+/// Records inputs, each as a track, into the files of a recording, and tells how it went.
 pub(crate) fn run_record<I: Inputs, O: Shelf, T: Sink>(
     alloc: Global,
     inputs: &mut I,
-    names: &[String],
+    asked: &RecordAsked,
     shelf: &mut O,
     text: &mut T,
 ) -> Status
-    requires some { 1 ≤ length names.now }
-    requires few { length names.now ≤ 16 }
-    ensures { RecordEnds (map string_bytes names.now) result (outside_of (I.seen inputs.old) (O.seen shelf.old) (T.seen text.old))
+    requires { IsInRange asked.now }
+    ensures { RecordEnds asked.now result (outside_of (I.seen inputs.old) (O.seen shelf.old) (T.seen text.old))
         (outside_of (I.seen inputs.new) (O.seen shelf.new) (T.seen text.new)) }
 {
-    match record_inputs(alloc, inputs, names, shelf) {
+    match record_inputs(alloc, inputs, asked, shelf) {
         Ok(report) => tell_done(alloc, text, &report),
         Err(status) => {
             let _put = put_answer(alloc, text, &status);

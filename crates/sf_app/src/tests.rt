@@ -10,6 +10,7 @@ mod failures;
 mod inputs;
 mod listing;
 mod movies;
+mod options;
 mod refusals;
 mod several;
 mod sizes;

@@ -5,7 +5,8 @@ use Rattle.sf_extract.specs.declared.plan.PlanFault.{PlanFault}
 use Rattle.sf_extract.specs.declared.plan.PlanFault.TheVariants as plans
 use Rattle.sf_reader.specs.declared.outcome.ExtractOutcome.{ExtractOutcome}
 use Rattle.sf_reader.specs.declared.outcome.ExtractOutcome.TheVariants as outcomes
-use Rattle.sf_app.specs.ExtractEnds.{Extraction, usual_stem}
+use Rattle.sf_words.specs.declared.command.ExtractAsked.{ExtractAsked}
+use Rattle.sf_app.specs.ExtractEnds.{Extraction}
 use Rattle.sf_app.specs.declared.status.Status.{Status}
 use Rattle.sf_app.specs.declared.status.Status.TheVariants.{Usage, ReadFault, WriteFault, MovieRefused, SampleRefused, PlanRefused, NoMemory}
 use Rattle.sf_app.specs.declared.status.UsageFault.{UsageFault}
@@ -25,9 +26,9 @@ unread reader plans.NoMemory = NoMemory
 abbrev pub NotRead : Result (List (List Command)) UsageFault → Status → Type 0
 NotRead said status = (status ≡ NoMemory) ⊎ ((fault : UsageFault) × (said ≡ Err fault) × (status ≡ Usage fault))
 
--- the extraction of plans where nothing else is asked for
-abbrev pub usual_extraction : List ℕ → List (List Command) → Extraction
-usual_extraction name plans = record { name = name; plans = plans; stem = usual_stem }
+-- the extraction of plans that are asked
+abbrev pub extraction : ExtractAsked → List (List Command) → Extraction
+extraction asked plans = record { name = asked.movie; plans = plans; stem = asked.out }
 
 -- the lengths of the dumps of an extraction that is done, or the answer of another one
 abbrev pub answered : ExtractOutcome → List ℕ → Result (List ℕ) Status

@@ -2,7 +2,9 @@
 
 use super::inputs::FILE;
 use super::*;
+use sf_extract::read_plan;
 use sf_meaning::MovieFault;
+use sf_reader::{ExtractOutcome, extract_direct};
 use sf_world::HoleSource;
 use std::fmt::Write;
 use std::test::Fail;
@@ -195,9 +197,7 @@ fn a_movie_of_a_phone_is_listed(rt: HostRuntime) -> Result<(), Fail> {
 
 // A file of more than 5 GiB, of which the media data's box has 5368709120 bytes and begins at 24. Its one sample
 // stands at 4294967300, which is 1_0000_0004 in hexadecimal, and takes a chunk offset of eight bytes.
-#[test]
-fn a_sample_after_4_gib_is_listed(rt: HostRuntime) -> Result<(), Fail> {
-    let alloc = rt.alloc();
+fn after_4_gib(alloc: Global) -> Result<HoleSource, AllocError> {
     let mut front = Bytes::from_slice(alloc, &FILE[..24])?;
     front.append(b"\0\0\0\x01mdat\0\0\0\x01\x40\0\0\0")?;
     let stts = words(alloc, &[0, 1, 1, 0])?;
@@ -232,13 +232,37 @@ fn a_sample_after_4_gib_is_listed(rt: HostRuntime) -> Result<(), Fail> {
         Bytes::from_slice(alloc, b"\xde\xad\xbe\xef")?,
     ))?;
     pieces.push((end, moov))?;
-    let mut source = HoleSource::new(alloc, length, pieces);
+    Ok(HoleSource::new(alloc, length, pieces))
+}
+
+#[test]
+fn a_sample_after_4_gib_is_listed(rt: HostRuntime) -> Result<(), Fail> {
+    let alloc = rt.alloc();
+    let mut source = after_4_gib(alloc)?;
     let mut text = MemText::new(alloc);
     assert_eq!(rt; list_movie(alloc, &mut source, &mut text), Ok(()));
     assert_eq!(rt;
         text.bytes(),
         b"start 0\ntrack 0 aac 48000 1 1 0\nsample 0 0 0 0 1 4\n".as_slice()
     );
+    Ok(())
+}
+
+#[test]
+fn a_sample_after_4_gib_is_extracted(rt: HostRuntime) -> Result<(), Fail> {
+    let alloc = rt.alloc();
+    let mut plans = Vec::new(alloc);
+    if let Ok(plan) = read_plan(alloc, "s0,r") {
+        plans.push(plan)?;
+    }
+    assert_eq!(rt; plans.len(), 1);
+    let mut shelf = MemShelf::new(alloc, Vec::new(alloc));
+    if plans.len() == 1 {
+        let end = extract_direct(alloc, after_4_gib(alloc)?, plans, "out", &mut shelf);
+        assert_eq!(rt; end.outcome, ExtractOutcome::Done);
+    }
+    let dump = b"\x01\0\0\0\0\0\0\0\x01\0\0\0\0\0\0\0\0\0\0\0\x04\xde\xad\xbe\xef";
+    assert!(rt; shelf.file(0) == Some(dump.as_slice()));
     Ok(())
 }
 

@@ -227,3 +227,33 @@ fn each_call_of_the_shelf_fails(rt: HostRuntime) -> Result<(), Fail> {
     }
     Ok(())
 }
+
+// Files begin with the first track, whose second sample is a second after its first.
+#[test]
+fn a_series_is_cut_by_time(rt: HostRuntime) -> Result<(), Fail> {
+    let alloc = rt.alloc();
+    let first = input_of(alloc, &[(0, 4), (1_000_000, 4)])?;
+    let second = input_of(alloc, &[(1_500_000, 4)])?;
+    let words = [
+        "record",
+        "a",
+        "b",
+        "--interleave-us=500000",
+        "--max-duration-us=1000000",
+        "--max-files=2",
+    ];
+    let ended = run_named(alloc, &words, &[("a", &first), ("b", &second)], NEVER)?;
+    assert_eq!(rt; ended.status, Status::Done);
+    assert_eq!(rt;
+        ended.text.bytes(),
+        b"file 1 1056\nfile 2 1148\ntrack 0 2\ntrack 1 1\ndone\n".as_slice()
+    );
+    let listed = run_words(alloc, &["list", "a"], ended.shelf.file(1).unwrap_or(&[]))?;
+    assert_eq!(rt;
+        listed.text.bytes(),
+        b"start 1000000\ntrack 0 aac 48000 1 1 0\nsample 0 0 0 0 1 4\n\
+            track 1 aac 48000 1 1 500000\nsample 1 0 0 0 1 4\n"
+            .as_slice()
+    );
+    Ok(())
+}

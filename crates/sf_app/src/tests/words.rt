@@ -15,7 +15,7 @@ const SEVENTEEN: [&str; 19] = [
 
 #[test]
 fn words_that_are_no_command_are_refused(rt: HostRuntime) -> Result<(), Fail> {
-    let rows: [(&[&str], UsageFault); 21] = [
+    let rows: [(&[&str], UsageFault); 25] = [
         (&[], UsageFault::Command),
         (&[""], UsageFault::Command),
         (&["Record", "a"], UsageFault::Command),
@@ -34,6 +34,13 @@ fn words_that_are_no_command_are_refused(rt: HostRuntime) -> Result<(), Fail> {
         (&["list", "a", "a"], UsageFault::Words),
         (&["extract", "a"], UsageFault::Words),
         (&["extract", "a", "-r"], UsageFault::Words),
+        (
+            &["extract", "a", "r", "--low=2", "--high=1"],
+            UsageFault::Words,
+        ),
+        (&["record", "a", "--max-files=0"], UsageFault::Words),
+        (&["make", "1", "9"], UsageFault::Words),
+        (&["make", "1", "1"], UsageFault::Command),
         // The words are counted before they are read as plans.
         (&SEVENTEEN, UsageFault::Words),
         (&["extract", "a", "r", "s0,x", ""], UsageFault::Words),

@@ -1,5 +1,5 @@
-use Rattle.std.proofs.Common.{◌≡◌, ℕ, ◌<◌, List, [], ◌∷◌, ◌++◌, length, map, string_bytes, take, Err, sym, ap, subst, ◌∙◌, arith}
-use Rattle.std.proofs.lemmas.List.{length-map, map-append}
+use Rattle.std.proofs.Common.{◌≡◌, ℕ, ◌<◌, List, [], ◌∷◌, ◌++◌, length, map, take, Err, sym, ap, subst, ◌∙◌, arith}
+use Rattle.std.proofs.lemmas.List.{map-append}
 use Rattle.std.proofs.lemmas.Simd.{map-map}
 use Rattle.sf_world.specs.Views.{NotGiven, SourceView}
 use Rattle.sf_world.specs.declared.failures.Denied.{Denied}
@@ -15,7 +15,7 @@ returns-in-Err-clause-unfetched g c =
     let n : ℕ = c.loop-number.number in
     let lt : n < length names = c.loop-number-test.true in
     let x = c.index-names-number.result in
-    let named : c.as_str.result.now ≡ string_bytes x = c.as_str.ensures.value in
+    let named : c.as_str.result.now ≡ x = c.as_str.ensures in
     let e = c.in-Err.ensures in
     let is = c.in-Err.is in
     let sources = map (λ s. g.I.Src.Source.seen s) c.loop-number.sources.items in
@@ -24,9 +24,9 @@ returns-in-Err-clause-unfetched g c =
     let m' = g.I.Inputs.seen c.fetch.new.self in
     let i' = g.I.Inputs.seen c.give_all_back.new.inputs in
     let back : TakesAllBack (faults_of sources) m' i' = subst (λ (counts : List ℕ). TakesAllBack counts m' i') (sym (map-map (λ (v : SourceView). v.faults) (λ s. g.I.Src.Source.seen s) c.loop-number.sources.items)) c.give_all_back.ensures in
-    subst (λ (s : Status). Unfetched (map string_bytes names) s i i') (sym c.unfetched.ensures)
-    (unfetched_by (map string_bytes names) n (string_bytes x) c.in-Err.denied sources i m m' i'
-    (name_there string_bytes names n x lt c.index-names-number.is) (omega (arith, lt, length-map names string_bytes)) (g.met.I.Inputs.bounded c.args.inputs.now).1
+    subst (λ (s : Status). Unfetched names s i i') (sym c.unfetched.ensures)
+    (unfetched_by names n x c.in-Err.denied sources i m m' i'
+    (name_there names n x lt c.index-names-number.is) (omega (arith, lt)) (g.met.I.Inputs.bounded c.args.inputs.now).1
     c.loop-number.invariant.fetched
     (record {
       failed = λ f. subst (λ (name : List ℕ). NotGiven name m m') named (e.failed (ap (λ (d : Denied). Err d) f));
@@ -44,20 +44,20 @@ loop-number-preserved g c =
     let n : ℕ = c.loop-number.number in
     let lt : n < length names = c.loop-number-test.true in
     let x = c.index-names-number.result in
-    let named : c.as_str.result.now ≡ string_bytes x = c.as_str.ensures.value in
+    let named : c.as_str.result.now ≡ x = c.as_str.ensures in
     let e = c.in-Ok-fetch.ensures in
     let source = c.in-Ok-fetch.source in
     let sources = map (λ s. g.I.Src.Source.seen s) c.loop-number.sources.items in
     let i = g.I.Inputs.seen c.args.inputs.now in
     let m = g.I.Inputs.seen c.loop-number.inputs in
     let i' = g.I.Inputs.seen c.fetch.new.self in
-    let more = fetched_more (take n (map string_bytes names)) sources c.as_str.result.now (g.I.Src.Source.seen source) i m i' c.loop-number.invariant.fetched
+    let more = fetched_more (take n names) sources c.as_str.result.now (g.I.Src.Source.seen source) i m i' c.loop-number.invariant.fetched
     (record { given = e.source; gave = e.ok; holds = e.holds; faults = e.faults; misses = e.cause.later; spare = e.spare_ok }) in
     record {
       fetched =
           subst (λ (ns : List (List ℕ)). Fetched ns (map (λ s. g.I.Src.Source.seen s) c.push_reserved.new.self.items) i i')
-          (ap (λ (name : List ℕ). take n (map string_bytes names) ++ name ∷ []) named ∙ sym (next_name string_bytes names n x lt c.index-names-number.is))
-          (subst (λ (vs : List SourceView). Fetched (take n (map string_bytes names) ++ c.as_str.result.now ∷ []) vs i i')
+          (ap (λ (name : List ℕ). take n names ++ name ∷ []) named ∙ sym (next_name names n x lt c.index-names-number.is))
+          (subst (λ (vs : List SourceView). Fetched (take n names ++ c.as_str.result.now ∷ []) vs i i')
           (sym (map-append (λ s. g.I.Src.Source.seen s) c.loop-number.sources.items (source ∷ [])) ∙ ap (λ xs. map (λ s. g.I.Src.Source.seen s) xs) (sym c.push_reserved.ensures.items))
           more);
       len = omega (arith, c.loop-number.invariant.len, c.push_reserved.ensures.len);
