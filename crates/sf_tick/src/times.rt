@@ -4,12 +4,15 @@ ghost use Rattle.std.specs.Prelude.{◌≡◌, ◌*◌, ◌^◌, ◌≤◌, unsi
 ghost use Rattle.sf_tick.specs.Tick.{tick, us};
 
 /// The tick nearest to a time in microseconds. An exact half goes up.
+// Whole seconds apart, 64 bits hold each product.
+#[tactic(auto, using(crate::proofs::Ticks::by_seconds, crate::proofs::Ticks::ticks_fit))]
 pub fn to_tick(us: u64, scale: u32) -> u64
     requires scale { 1 ≤ scale }
     requires time { us ≤ 2 ^ 48 }
     ensures { result ≡ tick us scale }
 {
-    ((u128::from(us) * u128::from(scale) + 500_000) / 1_000_000) as u64
+    let (seconds, rest) = (us / 1_000_000, us % 1_000_000);
+    seconds * u64::from(scale) + (rest * u64::from(scale) + 500_000) / 1_000_000
 }
 
 /// The microseconds at a tick, rounded down.
