@@ -2,9 +2,10 @@
 use Rattle.std.specs.Prelude.{◌≡◌, ℕ, ◌+◌, ◌⊎◌, List, [], ◌∷◌, length, Option, Some, None, Result, Ok, Err}
 use Rattle.sf_world.specs.Counts.{Rose}
 use Rattle.sf_world.specs.Views.{GivenBack, InputsView, NotAsked, Says, ShelfView}
+use Rattle.sf_meaning.specs.Entries.{movie_entries}
 use Rattle.sf_meaning.specs.Movie.{Step, movie}
 use Rattle.sf_meaning.specs.Steps.{◌>>=◌}
-use Rattle.sf_movie.specs.Loaded.{Loaded, movie_entries}
+use Rattle.sf_movie.specs.Loaded.{Loaded}
 use Rattle.sf_extract.specs.Plan.{missing_from}
 use Rattle.sf_extract.specs.Readout.{Readout, readout}
 use Rattle.sf_extract.specs.declared.plan.Command.{Command}

@@ -4,10 +4,11 @@ use Rattle.std.specs.Int.{w64, cast_unsigned}
 use Rattle.sf_avc.specs.declared.prefixed.LengthFault.{LengthFault}
 use Rattle.sf_avc.specs.declared.prefixed.LengthFault.TheVariants.{BadLength, NoMemory}
 use Rattle.sf_box.specs.Boxes.{be32, be64}
+use Rattle.sf_meaning.specs.Entries.{movie_entries}
 use Rattle.sf_meaning.specs.Movie.{Step, movie}
 use Rattle.sf_meaning.specs.Steps.{◌>>=◌}
 use Rattle.sf_meaning.specs.declared.movie.PlainSample.{PlainSample}
-use Rattle.sf_movie.specs.Loaded.{Loaded, movie_entries, sample_count, sample_of}
+use Rattle.sf_movie.specs.Loaded.{Loaded, sample_count, sample_of}
 use Rattle.sf_extract.specs.Current.{Extracting, Positions, advanced, current, flags_of, selected, unmoved, unselected}
 use Rattle.sf_extract.specs.HandedOut.{handed_out}
 use Rattle.sf_extract.specs.SyncAt.{seeked}

@@ -10,6 +10,7 @@ ghost use Rattle.sf_meaning.specs.Rows.{held_as};
 ghost use Rattle.sf_meaning.specs.Movie.{movie};
 ghost use Rattle.sf_meaning.specs.Written.{held_since};
 ghost use Rattle.sf_layout.specs.Layout.{layout, movie_box, track_samples, tracks_of};
+ghost use Rattle.sf_layout.specs.Writable.{Writable};
 ghost use Rattle.sf_layout.specs.Written.{base_of, track_groups, written_movie};
 ghost use Rattle.sf_gather.specs.Accepting.{last_of};
 ghost use Rattle.sf_gather.specs.Proper.{AllFollow};
@@ -35,6 +36,12 @@ pub fn closed_file_means()
     layout_is_movie();
     layouts_are_read_back();
 }
+
+/// A law: chunks that a file can hold can be written, and the file is read back.
+#[tactic(auto, using(crate::proofs::Holdable::holdable_writable))]
+pub fn held_chunks_are_writable()
+    ensures { (setups : List TrackSetup) (chunks : List Chunk) → Holdable setups chunks → Writable setups chunks }
+{}
 
 /// A law: no chunks can be held, of tracks with which a file can begin and that are read back.
 pub fn no_chunks()

@@ -2,6 +2,7 @@
 pub use Rattle.sf_layout.proofs.FileBack.{layout_read}
 pub use Rattle.sf_layout.proofs.ContentBack.{layout_content, layout_begins, layout_groups, layout_joined, layouts_joined}
 pub use Rattle.sf_layout.proofs.EntriesBack.{made_entry}
+pub use Rattle.sf_layout.proofs.FileEntries.{layout_entries}
 pub use Rattle.sf_layout.proofs.GrownRows.{payload_grown, samples_grown, rows_grown, samples_kept, rows_kept}
 pub use Rattle.sf_layout.proofs.GrownTracks.{tracks_grown, tracks_many, layout_parts, layout_long}
 pub use Rattle.sf_layout.proofs.TrackRows.{rows_timed, rows_ticks}

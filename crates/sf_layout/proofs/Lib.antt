@@ -13,4 +13,5 @@ pub mod GrownRows
 pub mod GrownTracks
 pub mod FileBack
 pub mod ContentBack
+pub mod FileEntries
 pub mod LayoutLaws

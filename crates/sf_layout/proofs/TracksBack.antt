@@ -6,13 +6,14 @@ use Rattle.sf_box.specs.Parts.{Part, tiled, laid}
 use Rattle.sf_box.proofs.BoxLaws.{length-tiled-cons}
 use Rattle.sf_tick.specs.declared.types.Stored.{Stored}
 use Rattle.sf_tick.specs.declared.types.Chunk.{Chunk}
+use Rattle.sf_entry.specs.Stsd.{entries_of, stsd_of}
 use Rattle.sf_entry.specs.declared.track_setup.TrackSetup.{TrackSetup}
 use Rattle.sf_meaning.specs.Groups.{counts_in_trak}
-use Rattle.sf_meaning.specs.Tracks.{held_in, track_in, tracks_in}
+use Rattle.sf_meaning.specs.Tracks.{TrackParts, held_in, parts_in, track_in, tracks_in}
 use Rattle.sf_meaning.specs.Stbl.{Row, counts_in_rows, stbl_parts}
 use Rattle.sf_meaning.specs.Written.{listed}
 use Rattle.sf_meaning.specs.Writable.{Tellable}
-use Rattle.sf_meaning.proofs.MeaningLaws.{track_back, counts_back}
+use Rattle.sf_meaning.proofs.MeaningLaws.{track_back, entries_back, counts_back}
 use Rattle.sf_layout.specs.MovieBox.{trak_body, traks_from}
 use Rattle.sf_layout.specs.Layout.{samples_of, stored_bytes, track_samples, track_rows, first_us, TrackRows, tracks_from, lead_of, stbl_of, head_of}
 use Rattle.sf_layout.specs.Written.{kind_as, base_of, written_track, written_tracks}
@@ -86,6 +87,16 @@ counts_read start number setup chunks h filled payload w short =
     let k : TrakRead start number setup chunks h = trak_read start number setup chunks h w short in
     let t : Tellable setup.scale (base_of number chunks) (track_rows number 40 chunks) = rows_tellable number 40 setup chunks filled w payload in
     counts_back 1000000 setup.scale (base_of number chunks) _ _ k.heads.0 setup.entry (kind_as setup.kind) (track_rows number 40 chunks) k.heads.1 k.short w.entry.read t
+
+-- its sample entries
+pub entries_read : (start number : ℕ) (setup : TrackSetup) (chunks : List Chunk) (h : BoxHead) → AllByRecursion (λ c. 0 < length c.samples) chunks
+    → 40 + length (stored_bytes (samples_of chunks)) < 2 ^ 64 → WritableTrack setup (track_samples number chunks)
+    → length (trak_of start number setup chunks) < 2 ^ 32 - 8
+    → (p : TrackParts) × (parts_in 1000000 (record { head = h; body = trak_of start number setup chunks }) ≡ Ok p) × (at : ℕ) × (entries_of at (stsd_of setup.entry) ≡ Ok p.entries)
+entries_read start number setup chunks h filled payload w short =
+    let k : TrakRead start number setup chunks h = trak_read start number setup chunks h w short in
+    let t : Tellable setup.scale (base_of number chunks) (track_rows number 40 chunks) = rows_tellable number 40 setup chunks filled w payload in
+    entries_back 1000000 setup.scale (base_of number chunks) _ _ k.heads.0 setup.entry (kind_as setup.kind) (track_rows number 40 chunks) k.heads.1 k.short w.entry.read t
 
 pub length-traks : (start number : ℕ) (setup : TrackSetup) (setups : List TrackSetup) (chunks : List Chunk)
     → length (tiled (trak_list start number (setup ∷ setups) chunks)) ≡ 8 + length (trak_of start number setup chunks) + length (tiled (trak_list start (number + 1) setups chunks))

@@ -1,10 +1,12 @@
--- What the file of chunks of several tracks means: its movie, and the samples of each chunk of a track.
-use Rattle.std.specs.Prelude.{ℕ, ◌+◌, ◌==◌, if◌then◌else◌, List, [], ◌∷◌, length, map}
+-- What the file of chunks of several tracks means: its movie, its sample entries, and the samples of each chunk of a track.
+use Rattle.std.specs.Prelude.{◌≡◌, ℕ, ◌+◌, ◌==◌, if◌then◌else◌, List, [], ◌∷◌, length, map, Ok}
 use Rattle.sf_tick.specs.declared.types.Kind.{Kind}
 use Rattle.sf_tick.specs.declared.types.Kind.TheVariants as kinds
 use Rattle.sf_tick.specs.declared.types.Stored.{Stored}
 use Rattle.sf_tick.specs.declared.types.Chunk.{Chunk}
+use Rattle.sf_entry.specs.Stsd.{entries_of, stsd_of}
 use Rattle.sf_entry.specs.declared.track_setup.TrackSetup.{TrackSetup}
+use Rattle.sf_entry.specs.declared.types.EntryAt.{EntryAt}
 use Rattle.sf_meaning.specs.Groups.{Group}
 use Rattle.sf_meaning.specs.Written.{listed, held_since}
 use Rattle.sf_meaning.specs.declared.movie.TrackKind.{TrackKind}
@@ -53,6 +55,13 @@ written_movie setups chunks = record {
   start_us = start_in setups chunks;
   tracks = written_tracks (start_in setups chunks) 0 setups chunks;
 }
+
+-- each track has the sample entries that the entry of its setup says, alone in a sample description box at some place (8.5.2)
+abbrev pub HaveEntries : List TrackSetup → List (List EntryAt) → Type 0
+HaveEntries [] [] = Unit {0}
+HaveEntries [] (es ∷ entries) = ⊥
+HaveEntries (setup ∷ setups) [] = ⊥
+HaveEntries (setup ∷ setups) (es ∷ entries) = ((at : ℕ) × (entries_of at (stsd_of setup.entry) ≡ Ok es)) × HaveEntries setups entries
 
 -- the samples of each chunk of a track, with ticks from a base, among chunks of several tracks that stand one after the other from a place on
 abbrev pub track_groups : ℕ → ℕ → ℕ → List Chunk → List Group

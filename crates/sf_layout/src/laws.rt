@@ -7,6 +7,8 @@ ghost use Rattle.sf_tick.specs.declared.types.Chunk.{Chunk};
 ghost use Rattle.sf_tick.specs.declared.types.Setup.{Setup};
 ghost use Rattle.sf_entry.specs.TrackSetup.{made};
 ghost use Rattle.sf_entry.specs.declared.track_setup.TrackSetup.{TrackSetup};
+ghost use Rattle.sf_entry.specs.declared.types.EntryAt.{EntryAt};
+ghost use Rattle.sf_meaning.specs.Entries.{movie_entries};
 ghost use Rattle.sf_meaning.specs.Groups.{groups};
 ghost use Rattle.sf_meaning.specs.Joined.{begins_at, content, joined};
 ghost use Rattle.sf_meaning.specs.Rows.{decodes_of, held_as, timed};
@@ -15,7 +17,7 @@ ghost use Rattle.sf_meaning.specs.Stbl.{ticks_of, timed_of};
 ghost use Rattle.sf_meaning.specs.Movie.{movie};
 ghost use Rattle.sf_meaning.specs.Written.{held_since};
 ghost use Rattle.sf_layout.specs.Layout.{TrackRows, layout, movie_box, row_at, samples_of, start_of, stored_bytes, track_rows, track_samples, track_with, tracks_from, tracks_of};
-ghost use Rattle.sf_layout.specs.Written.{base_of, track_groups, written_movie};
+ghost use Rattle.sf_layout.specs.Written.{HaveEntries, base_of, track_groups, written_movie};
 ghost use Rattle.sf_layout.specs.Writable.{AllWritable, IsReadBack, Writable};
 
 /// The law of a written file: it is read as the movie of its chunks, and each track of it holds the samples
@@ -31,6 +33,13 @@ pub fn layout_is_movie()
         → begins_at (layout setups chunks) t ≡ Some (base_of t chunks) }
     ensures groups { (setups : List TrackSetup) (chunks : List Chunk) (t : ℕ) → Writable setups chunks → t < length setups
         → groups (layout setups chunks) t ≡ Some (track_groups (base_of t chunks) t 40 chunks) }
+{}
+
+/// A law: the sample entries of a written file are those of its setups, one list for each track, in order.
+#[tactic(auto, using(crate::proofs::LayoutLaws::layout_entries))]
+pub fn layout_has_entries()
+    ensures { (setups : List TrackSetup) (chunks : List Chunk) → Writable setups chunks
+        → (entries : List (List EntryAt)) × (movie_entries (layout setups chunks) ≡ Ok entries) × HaveEntries setups entries }
 {}
 
 /// A law: the samples of a track of files that were laid out, joined in order, are those of the track's

@@ -12,7 +12,7 @@ mod laws;
 
 pub use heads::TrackHead;
 pub use laws::{
-    bounds_of_files, files_by_parts, layout_is_movie, layouts_are_read_back,
+    bounds_of_files, files_by_parts, layout_has_entries, layout_is_movie, layouts_are_read_back,
     made_entries_are_read_back, one_more_chunk, rows_list_samples,
 };
 pub use sf_entry::TrackSetup;

@@ -106,6 +106,15 @@ track_back file movie_scale number scale base shift trak h bytes kind rs heads s
     rw (parts_back movie_scale scale base shift trak h bytes b.0 rs heads short b.1 t, held_back file number scale base (stts_place at bytes) (stsc_place at bytes rs) rs t held)
     (ap (λ (k : TrackKind). let track : PlainTrack = record { kind = k; scale = scale; lead = shift.lead; media_time = shift.media_time; samples = listed base rs } in Ok track) b.2)
 
+-- Its sample entries are those that are read of its entry, alone in its box, at some place.
+pub entries_back : (movie_scale scale base : ℕ) (shift : Shift) (trak : Piece) (h : BoxHead) (bytes : List ℕ) (kind : TrackKind) (rs : List Row)
+    → heads_in movie_scale trak ≡ Ok (written_heads scale shift h bytes rs) → length (tiled (stbl_parts bytes rs)) < 2 ^ 32 - 8 → ReadsBack bytes kind → Tellable scale base rs
+    → (p : TrackParts) × (parts_in movie_scale trak ≡ Ok p) × (at : ℕ) × (entries_of at (stsd_of bytes) ≡ Ok p.entries)
+entries_back movie_scale scale base shift trak h bytes kind rs heads short back t =
+    let at : ℕ = h.at + h.head in
+    let b : (e : EntryAt) × (entries_of (at + 8) (stsd_of bytes) ≡ Ok (e ∷ [])) × (kind_of e.entry ≡ kind) = back (at + 8) in
+    (written_parts scale shift h bytes b.0 rs, parts_back movie_scale scale base shift trak h bytes b.0 rs heads short b.1 t, at + 8, b.1)
+
 -- How many samples its chunks have.
 pub counts_back : (movie_scale scale base : ℕ) (shift : Shift) (trak : Piece) (h : BoxHead) (bytes : List ℕ) (kind : TrackKind) (rs : List Row)
     → heads_in movie_scale trak ≡ Ok (written_heads scale shift h bytes rs) → length (tiled (stbl_parts bytes rs)) < 2 ^ 32 - 8 → ReadsBack bytes kind → Tellable scale base rs

@@ -11,6 +11,7 @@ pub mod SampleSizes
 pub mod TrackSamples
 pub mod Tracks
 pub mod Movie
+pub mod Entries
 pub mod Accepted
 pub mod Shown
 pub mod Joined

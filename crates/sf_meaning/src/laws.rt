@@ -21,7 +21,7 @@ ghost use Rattle.sf_meaning.specs.Movie.{movie_in};
 ghost use Rattle.sf_meaning.specs.References.{references_of};
 ghost use Rattle.sf_meaning.specs.TrackHeads.{heads_in, information_in, media_in};
 ghost use Rattle.sf_meaning.specs.TrackSamples.{Tables, samples_in};
-ghost use Rattle.sf_meaning.specs.Tracks.{held_in, kind_of, track_in};
+ghost use Rattle.sf_meaning.specs.Tracks.{TrackParts, held_in, kind_of, parts_in, track_in};
 ghost use Rattle.sf_meaning.specs.SampleAt.{IsSampleAt};
 ghost use Rattle.sf_meaning.specs.Stbl.{Row, Timed, counts_in_rows, stbl_parts, ticks_of, timed_of};
 ghost use Rattle.sf_meaning.specs.Writable.{IsWritable, Tellable};
@@ -58,7 +58,7 @@ pub fn accepted_movies()
 
 /// A law: a track whose tables were written is read back, whatever its headers are and wherever its tables
 /// stand in the file, if its entry is: as a track of the entry's kind with the samples of its rows, whose
-/// chunks have so many samples.
+/// chunks have so many samples, and with the sample entries that its entry says, alone in its box at some place.
 #[tactic(auto, using(crate::proofs::MeaningLaws::track_laws))]
 pub fn tracks_are_read_back()
     ensures samples { (file movie_scale number scale base : ℕ) (shift : Shift) (trak : Piece) (h : BoxHead) (bytes : List ℕ) (kind : TrackKind) (rs : List Row)
@@ -66,6 +66,10 @@ pub fn tracks_are_read_back()
         → length (tiled (stbl_parts bytes rs)) < 2 ^ 32 - 8 → ((at : ℕ) → (e : EntryAt) × (entries_of at (stsd_of bytes) ≡ Ok (e ∷ [])) × (kind_of e.entry ≡ kind)) → Tellable scale base rs
         → held_in file number 0 (listed base rs) ≡ Ok tt
         → track_in file movie_scale number trak ≡ Ok (record { kind = kind; scale = scale; lead = shift.lead; media_time = shift.media_time; samples = listed base rs }) }
+    ensures entries { (movie_scale scale base : ℕ) (shift : Shift) (trak : Piece) (h : BoxHead) (bytes : List ℕ) (kind : TrackKind) (rs : List Row)
+        → heads_in movie_scale trak ≡ Ok (record { scale = scale; shift = shift; own = true ∷ []; stbl = record { head = h; body = tiled (stbl_parts bytes rs) } })
+        → length (tiled (stbl_parts bytes rs)) < 2 ^ 32 - 8 → ((at : ℕ) → (e : EntryAt) × (entries_of at (stsd_of bytes) ≡ Ok (e ∷ [])) × (kind_of e.entry ≡ kind)) → Tellable scale base rs
+        → (p : TrackParts) × (parts_in movie_scale trak ≡ Ok p) × (at : ℕ) × (entries_of at (stsd_of bytes) ≡ Ok p.entries) }
     ensures counts { (movie_scale scale base : ℕ) (shift : Shift) (trak : Piece) (h : BoxHead) (bytes : List ℕ) (kind : TrackKind) (rs : List Row)
         → heads_in movie_scale trak ≡ Ok (record { scale = scale; shift = shift; own = true ∷ []; stbl = record { head = h; body = tiled (stbl_parts bytes rs) } })
         → length (tiled (stbl_parts bytes rs)) < 2 ^ 32 - 8 → ((at : ℕ) → (e : EntryAt) × (entries_of at (stsd_of bytes) ≡ Ok (e ∷ [])) × (kind_of e.entry ≡ kind)) → Tellable scale base rs

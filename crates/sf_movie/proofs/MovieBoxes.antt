@@ -7,6 +7,7 @@ use Rattle.sf_box.specs.declared.types.BoxHead.{BoxHead}
 use Rattle.sf_box.specs.declared.types.BoxFault.{BoxFault}
 use Rattle.sf_box.proofs.BoxLaws.{box_end, box_step, boxes_fault, first_tells}
 use Rattle.sf_meaning.specs.Steps.{◌>>=◌, as_fault, body_at, of_kind}
+use Rattle.sf_meaning.specs.Entries.{moov_entries, movie_entries}
 use Rattle.sf_meaning.specs.Movie.{Step, movie, movie_in, only_moov, top_boxes}
 use Rattle.sf_meaning.specs.declared.faults.MovieFault.{MovieFault}
 use Rattle.sf_meaning.specs.declared.faults.MovieFault.TheVariants.{Tiling}
@@ -14,7 +15,7 @@ use Rattle.sf_meaning.specs.declared.faults.MovieFault.TheVariants as movies
 use Rattle.sf_meaning.specs.declared.movie.PlainMovie.{PlainMovie}
 use Rattle.sf_world.specs.Contents.{HasLength, ReadsAt}
 use Rattle.sf_entry.specs.declared.types.EntryAt.{EntryAt}
-use Rattle.sf_movie.specs.Loaded.{Loaded, moov_entries, movie_entries}
+use Rattle.sf_movie.specs.Loaded.{Loaded}
 use Rattle.sf_movie.specs.Loads.{IsCaused, Reads}
 use Rattle.sf_movie.specs.inner.Walk.{Fits, Holds, Meets, box_at, moov_of}
 use Rattle.sf_movie.specs.declared.load.LoadFault.{LoadFault}

@@ -7,6 +7,7 @@ use Rattle.sf_box.specs.Parts.{child_piece}
 use Rattle.sf_entry.specs.Stsd.{HasWidth}
 use Rattle.sf_entry.specs.declared.types.EntryAt.{EntryAt}
 use Rattle.sf_meaning.specs.Accepted.{IsAccepted}
+use Rattle.sf_meaning.specs.Entries.{moov_entries, trak_entries}
 use Rattle.sf_meaning.specs.Headers.{start_in}
 use Rattle.sf_meaning.specs.Movie.{in_moov, movie_in, movie_scale, tracks_of}
 use Rattle.sf_meaning.specs.Steps.{◌>>=◌}
@@ -16,7 +17,6 @@ use Rattle.sf_meaning.specs.declared.faults.MovieFault.TheVariants as movies
 use Rattle.sf_meaning.specs.declared.movie.PlainMovie.{PlainMovie}
 use Rattle.sf_meaning.specs.declared.movie.PlainTrack.{PlainTrack}
 use Rattle.sf_meaning.proofs.MeaningLaws.{movie_accepted, scale_of_movie, tracks_of_movie}
-use Rattle.sf_movie.specs.Loaded.{moov_entries, trak_entries}
 use Rattle.sf_movie.specs.declared.parts.MovieParts.{MovieParts}
 use Rattle.sf_movie.specs.declared.track.Track.{Track}
 use Rattle.sf_movie.specs.inner.Kept.{IsKept, IsWhole, loaded_of, parts_read, plain_of, track_read, tracks_read}

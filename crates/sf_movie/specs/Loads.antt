@@ -2,9 +2,10 @@
 use Rattle.std.specs.Prelude.{◌≡◌, ◌≢◌, ℕ, ◌+◌, ◌≤◌, List, length, Option, Some, Result, Ok, Err}
 use Rattle.sf_world.specs.Counts.{Rose}
 use Rattle.sf_world.specs.Views.{SourceView}
+use Rattle.sf_meaning.specs.Entries.{moov_entries}
 use Rattle.sf_meaning.specs.Movie.{Step, movie_in}
 use Rattle.sf_meaning.specs.declared.faults.MovieFault.TheVariants as faults
-use Rattle.sf_movie.specs.Loaded.{Loaded, moov_entries}
+use Rattle.sf_movie.specs.Loaded.{Loaded}
 use Rattle.sf_movie.specs.declared.load.LoadFault.{LoadFault}
 use Rattle.sf_movie.specs.declared.load.LoadFault.TheVariants.{Refused, ReadFault, NoMemory}
 

@@ -4,9 +4,10 @@ ghost use Rattle.std.specs.Prelude.{◌≡◌, ℕ, pos, ◌+◌, ◌^◌, ◌�
 ghost use Rattle.std.specs.List.{AllByRecursion, slice_get};
 ghost use Rattle.sf_entry.specs.Stsd.{HasWidth};
 ghost use Rattle.sf_meaning.specs.Answers.{Gives};
+ghost use Rattle.sf_meaning.specs.Entries.{moov_entries, movie_entries};
 ghost use Rattle.sf_meaning.specs.Movie.{movie, movie_in};
 ghost use Rattle.sf_meaning.specs.Shown.{shown};
-ghost use Rattle.sf_movie.specs.Loaded.{entry_of, moov_entries, movie_entries, sample_count, sample_of, unit_width, width_of};
+ghost use Rattle.sf_movie.specs.Loaded.{entry_of, sample_count, sample_of, unit_width, width_of};
 ghost use Rattle.sf_movie.specs.Loads.{IsWithin, LoadsOver, OfTold, Reads};
 ghost use Rattle.sf_tick.specs.Tick.{us};
 

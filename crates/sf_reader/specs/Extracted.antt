@@ -1,9 +1,10 @@
 -- How the extraction of plans ends, and which dumps a shelf keeps of it.
 use Rattle.std.specs.Prelude.{◌≡◌, ◌≢◌, ℕ, ◌⊎◌, List, ◌++◌, length, map, Option, Some, None, option_map, Ok, Err}
 use Rattle.sf_world.specs.Views.{KeptNone, ShelfView}
+use Rattle.sf_meaning.specs.Entries.{movie_entries}
 use Rattle.sf_meaning.specs.Movie.{movie}
 use Rattle.sf_meaning.specs.declared.faults.MovieFault.TheVariants as faults
-use Rattle.sf_movie.specs.Loaded.{Loaded, movie_entries}
+use Rattle.sf_movie.specs.Loaded.{Loaded}
 use Rattle.sf_extract.specs.Readout.{Readout}
 use Rattle.sf_extract.specs.declared.plan.Command.{Command}
 use Rattle.sf_reader.specs.Dumps.{AreBegun, AreUpTo, AreWhole, dump_names, dumps_of, first_missing, readouts, told_length}

@@ -20,7 +20,7 @@ use Rattle.sf_record.specs.declared.serial_end.SerialOutcome.TheVariants.{Done, 
 use Rattle.sf_record.specs.Input.{IsOfBytes, read_fault}
 use Rattle.sf_record.specs.Said.{Said, said_in, without_setup}
 use Rattle.sf_record.specs.Serial.{AllRead, Asked, EndsAtHeader, FitsNothing, FollowOrder, Gave, HasFault, Opens, Recorded, RecordsToLimit, SaysIn, SerialEnds, WasRead, answer_by, lists_of, lowest_fault}
-use Rattle.sf_record.specs.Called.{NoneRose, NothingFailed, TellBytes, after_headers, all_said, answer_for_all, answer_of, called_for, empty_limit, setups_said, unless_met, unless_refused}
+use Rattle.sf_record.specs.Called.{RecordsSaid, NoneRose, NothingFailed, TellBytes, after_headers, all_said, answer_for_all, answer_of, called_for, empty_limit, setups_said, unless_met, unless_refused}
 
 -- ---- what is read is what the inputs say
 
@@ -254,6 +254,20 @@ ends_called {asked} {given} (Refused track fault) inputs (inr rec) told not = in
 ends_called {asked} {given} (ReadFault input) inputs (inl header) told not = absurd (header_called input read_fault inputs told not header).1
 ends_called {asked} {given} (ReadFault input) inputs (inr rec) told not = inr (recorded_called (ReadFault input) inputs told not rec)
 ends_called {asked} {given} NoMemory inputs ends told not = inl refl
+
+-- where nothing failed and all is recorded, what was recorded is what the inputs say
+pub said_recorded : {asked : Asked} {given : Gave} (outcome : SerialOutcome) (inputs : List (List ℕ)) → outcome ≡ Done → SerialEnds asked given outcome → TellBytes asked.sources inputs → NothingFailed asked given
+    → RecordsSaid asked given inputs
+said_recorded {asked} {given} outcome inputs done ends told not =
+    let rec : Recorded asked given Done = subst (SerialEnds asked given) done ends in
+    let setups = rec.0 in
+    let reads = rec.1 in
+    let same : reads ≡ all_said 0 asked.options inputs = reads_said 0 asked.options asked.sources given.sources reads inputs told not.sources rec.2.read in
+    record {
+      setups = setups;
+      taken = ap (λ (rs : List Said). map (λ s. s.setup) rs) (sym same) ∙ rec.2.taken;
+      follow = subst (λ (rs : List Said). FollowOrder asked given setups (lists_of 0 asked.options setups rs) None) same rec.2.follow;
+    }
 
 pub never_rose : (a b : ℕ) → a ≡ 0 → b ≡ 0 → Rose a b → ⊥
 never_rose a b x y rose = let wrong : 1 ≤ 0 = omega (arith, x, y, rose) in omega (arith, wrong)

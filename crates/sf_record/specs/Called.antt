@@ -14,7 +14,7 @@ use Rattle.sf_record.specs.declared.faults.TrackFault.{TrackFault}
 use Rattle.sf_record.specs.declared.serial_end.SerialOutcome.{SerialOutcome}
 use Rattle.sf_record.specs.declared.serial_end.SerialOutcome.TheVariants.{Limit}
 use Rattle.sf_record.specs.Said.{Said, said_in}
-use Rattle.sf_record.specs.Serial.{Asked, Gave, lists_of, lowest_fault}
+use Rattle.sf_record.specs.Serial.{Asked, FollowOrder, Gave, lists_of, lowest_fault}
 
 -- what inputs say, of tracks that are numbered from here on
 abbrev pub all_said : ℕ → Options → List (List ℕ) → List Said
@@ -71,3 +71,9 @@ NoneRose (b ∷ before) (a ∷ after) = (Rose b.faults a.faults → ⊥) × None
 pub record NothingFailed (asked : Asked) (given : Gave) : Type 0 where
   pub sources : NoneRose asked.sources given.sources
   pub shelf : Rose asked.shelf.faults given.shelf.faults → ⊥
+
+-- All inputs were recorded as their bytes say: each has a setup, and the files that a shelf gained follow from the chunks of the samples that they say, in their order.
+pub record RecordsSaid (asked : Asked) (given : Gave) (inputs : List (List ℕ)) : Type 0 where
+  pub setups : List TrackSetup
+  pub taken : map (λ s. s.setup) (all_said 0 asked.options inputs) ≡ map Some setups
+  pub follow : FollowOrder asked given setups (lists_of 0 asked.options setups (all_said 0 asked.options inputs)) None

@@ -1,5 +1,5 @@
--- What the whole input of a recording says: the setup of its track, its samples, and its first fault.
-use Rattle.std.specs.Prelude.{ℕ, List, [], Option, Some, None, option_map, Result, Ok, Err}
+-- What the whole input of a recording says: the setup of its track, its samples, and its first fault; and files that hold it.
+use Rattle.std.specs.Prelude.{◌≡◌, ℕ, List, [], map, Option, Some, None, option_map, Result, Ok, Err}
 use Rattle.sf_tick.specs.declared.types.Setup.{Setup}
 use Rattle.sf_tick.specs.declared.types.Stored.{Stored}
 use Rattle.sf_coded.specs.CodedFile.{coded}
@@ -8,6 +8,8 @@ use Rattle.sf_entry.specs.TrackSetup.{made}
 use Rattle.sf_entry.specs.declared.track_setup.SetupFault.{SetupFault}
 use Rattle.sf_entry.specs.declared.track_setup.TrackSetup.{TrackSetup}
 use Rattle.sf_gather.specs.declared.given.Options.{Options}
+use Rattle.sf_meaning.specs.Joined.{joined}
+use Rattle.sf_meaning.specs.Rows.{held_as}
 use Rattle.sf_record.specs.Input.{Taken, coded_fault, given_of, input_of, setup_fault}
 use Rattle.sf_record.specs.declared.faults.TrackFault.{TrackFault}
 
@@ -42,3 +44,8 @@ said_in track options bytes = said_by track options (coded bytes).setup (coded b
 -- how samples are put into chunks where nothing else is asked for: of at most a second, from the start 0 on
 abbrev pub usual : Options
 usual = record { start_us = 0; interleave_us = 1000000 }
+
+-- An input is whole, and its samples are just those that files hold of a track, joined in their order.
+pub record IsHeld (track : ℕ) (said : Said) (files : List (List ℕ)) : Type 0 where
+  pub whole : said.fault ≡ None
+  pub held : joined files track ≡ Some (map held_as said.samples)
