@@ -10,7 +10,9 @@ mod pieces;
 mod tracks;
 
 pub use faults::FileFault;
-pub use laws::{closed_file_means, no_chunks, one_more_appended, one_more_chunk};
+pub use laws::{
+    closed_file_means, held_chunks_are_writable, no_chunks, one_more_appended, one_more_chunk,
+};
 pub use out_file::{Closing, OutFile};
 
 #[cfg(test)]

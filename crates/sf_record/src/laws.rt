@@ -29,7 +29,7 @@ pub fn record_surely(
         → (result.outcome ≡ SerialOutcome.NoMemory) ⊎ (result.outcome ≡ called_for options limits inputs) }
     ensures said { (inputs : List (List ℕ)) → TellBytes (map (λ s. ⟦<SureSource as Source>⟧.seen s) sources.items) inputs → result.outcome ≡ SerialOutcome.Done
         → RecordsSaid (asked_for options limits (map (λ s. ⟦<SureSource as Source>⟧.seen s) sources.items) (⟦<SureShelf as Shelf>⟧.seen shelf.old))
-            (gave (map (λ s. ⟦<SureSource as Source>⟧.seen s) result.sources.items) (⟦<SureShelf as Shelf>⟧.seen shelf.new) result.report) inputs }
+        (gave (map (λ s. ⟦<SureSource as Source>⟧.seen s) result.sources.items) (⟦<SureShelf as Shelf>⟧.seen shelf.new) result.report) inputs }
 {
     record_serial(alloc, sources, options, limits, shelf)
 }

@@ -1,0 +1,2 @@
+pub mod SelfTest
+pub mod inner
