@@ -8,7 +8,7 @@ ghost use Rattle.sf_cursor.specs.inner.Sound.{AreChunkStarts, HoldsFor, HoldsUpT
 
 use crate::starts::last_begun;
 use sf_list::Items;
-use sf_meaning::{ChunkAt, ChunkRun};
+use sf_meaning::{ChunkAt, ChunkRun, PlaceList};
 use std::alloc::{AllocError, Global};
 
 // How many chunks an entry holds for before the next entry does, of so many.
@@ -40,7 +40,7 @@ pub(crate) fn chunk_starts(
     requires { begins_rising (spreads_as runs.now) ≡ true }
     ensures { IfOk result (λ starts. AreChunkStarts runs.now chunks starts) }
 {
-    let mut starts = Items::new(alloc);
+    let mut starts = Items::from_vec(Vec::with_capacity(alloc, runs.len())?);
     let mut total = 0u32;
     for r in 0..runs.len() {
         starts.push(total)?;
@@ -52,7 +52,12 @@ pub(crate) fn chunk_starts(
 }
 
 /// The chunk of a sample, and how many samples of the chunk come before it.
-pub(crate) fn chunk_of(runs: &[ChunkRun], starts: &[u32], places: &[u64], i: u32) -> (ChunkAt, u32)
+pub(crate) fn chunk_of(
+    runs: &[ChunkRun],
+    starts: &[u32],
+    places: &PlaceList,
+    i: u32,
+) -> (ChunkAt, u32)
     requires order { begins_rising (spreads_as runs.now) ≡ true }
     requires many { length places.now < 2 ^ 32 }
     requires starts { AreChunkStarts runs.now (length places.now) starts.now }
@@ -66,7 +71,7 @@ pub(crate) fn chunk_of(runs: &[ChunkRun], starts: &[u32], places: &[u64], i: u32
     let left = i - starts[r];
     let c = run.first - 1 + left / run.per;
     let chunk = ChunkAt {
-        place: places[c as usize],
+        place: places.at(c as usize),
         per: run.per,
         description: run.description,
     };

@@ -1,39 +1,23 @@
 //! The cursor over the samples of a track.
 
-ghost use Rattle.std.specs.Prelude.{◌≡◌, ℕ, OnOk, pos, neg_ℤ, ◌≤ℤ◌, ◌<ℤ◌, ◌+◌, ◌^◌, ◌<◌, length, slice_get, Some};
+ghost use Rattle.std.specs.Prelude.{◌≡◌, ℕ, IfOk, OnOk, pos, neg_ℤ, ◌≤ℤ◌, ◌<ℤ◌, ◌+◌, ◌^◌, ◌<◌, length, slice_get, Some};
 ghost use Rattle.sf_meaning.specs.Answers.{Gives};
-ghost use Rattle.sf_meaning.specs.ReadTables.{sizes_view};
-ghost use Rattle.sf_meaning.specs.TrackSamples.{listed, samples_said};
-ghost use Rattle.sf_meaning.specs.inner.TrackTables.{IsInOrder, tables_view};
+ghost use Rattle.sf_meaning.specs.TrackSamples.{listed};
 ghost use Rattle.sf_meaning.specs.Tracks.{held_in};
 ghost use Rattle.sf_cursor.specs.Cursor.{tables_in, HasPlace};
 
-use crate::boxes::table_boxes;
 use crate::chunks::{chunk_of, chunk_starts};
-use crate::exact::{exact, exact_tables};
-use crate::held::chunks_held;
 use crate::look_up::{compose_at, is_sync, offset_at, place_at};
 use crate::starts::run_starts;
 use crate::sums::block_sums;
+use crate::tables::{SoundTables, tables_held};
 use crate::ticks::{decode_at, run_ticks};
 use sf_list::Items;
 use sf_meaning::{
-    MovieFault, PlainSample, TableFault, Tables, chunks_of, count_of, samples_one_by_one,
-    say_samples, size_at, tables_told,
+    MovieFault, PlainSample, TableFault, Tables, count_of, samples_one_by_one, size_at,
 };
-use std::alloc::Global;
+use std::alloc::{AllocError, Global};
 use std::marker::Model;
-
-// The tables say each of their samples, of a track with a timescale and so many sample entries. The list of
-// the chunks is given back at once.
-fn all_said(alloc: Global, scale: u32, entries: u32, tables: &Tables) -> Result<(), TableFault>
-    requires { IsInOrder tables.now }
-    ensures { Gives TableFault.NoMemory (λ _. tt) result (samples_said scale entries (length (sizes_view tables.now.sizes)) (tables_view tables.now)) }
-{
-    let chunks = chunks_of(alloc, tables)?;
-    let count = count_of(&tables.sizes);
-    say_samples(scale, u64::from(entries), count, tables, &chunks)
-}
 
 /// The samples that a sample table box says. It keeps the tables, and never a list of the samples.
 #[derive(Drop)]
@@ -67,7 +51,6 @@ impl Cursor {
     /// Reads the body of a sample table box, which begins at a place, of a track with a timescale and so
     /// many sample entries. It errs with the first thing that is wrong with the box, by
     /// `specs/Cursor.antt`, or where there is no memory.
-    #[tactic(auto, unfolding(crate::specs::Cursor::tables_in))]
     pub fn read(
         alloc: Global,
         stbl: &[u8],
@@ -78,9 +61,16 @@ impl Cursor {
         requires { base + length stbl.now < 2 ^ 64 }
         ensures { Gives TableFault.NoMemory (λ cursor. cursor) result (tables_in base scale entries stbl.now) }
     {
-        let boxes = table_boxes(alloc, stbl, base)?;
-        let tables = exact_tables(tables_told(alloc, base, boxes.as_slice())?);
-        all_said(alloc, scale, entries, &tables)?;
+        let tables = SoundTables::read(alloc, stbl, base, scale, entries)?;
+        let cursor = Cursor::over(alloc, tables)?;
+        Ok(cursor)
+    }
+
+    /// A cursor over the samples of tables.
+    pub fn over(alloc: Global, tables: SoundTables) -> Result<Cursor, AllocError>
+        ensures { IfOk result (λ cursor. cursor ≡ tables) }
+    {
+        let tables = tables.into_tables();
         let time_starts = run_starts(alloc, tables.deltas.as_slice())?;
         let ticks = run_ticks(alloc, tables.deltas.as_slice())?;
         let offset_starts = run_starts(alloc, tables.offsets.as_slice())?;
@@ -92,11 +82,11 @@ impl Cursor {
         let sums = block_sums(alloc, &tables.sizes)?;
         Ok(Cursor {
             tables,
-            time_starts: exact(time_starts),
-            ticks: exact(ticks),
-            offset_starts: exact(offset_starts),
-            chunk_starts: exact(chunk_starts),
-            sums: exact(sums),
+            time_starts,
+            ticks,
+            offset_starts,
+            chunk_starts,
+            sums,
         })
     }
 
@@ -115,15 +105,7 @@ impl Cursor {
         ensures held { result ≡ held_in bytes track 0 (listed self.now) }
         ensures places { OnOk result ((i : ℕ) → HasPlace self.now i) }
     {
-        samples_one_by_one();
-        let tables = &self.tables;
-        chunks_held(
-            tables.spreads.as_slice(),
-            tables.places.as_slice(),
-            &tables.sizes,
-            track,
-            bytes,
-        )
+        tables_held(&self.tables, track, bytes)
     }
 
     /// A sample by its number, from 0. It takes no memory.
@@ -140,7 +122,7 @@ impl Cursor {
         let (chunk, earlier) = chunk_of(
             tables.spreads.as_slice(),
             self.chunk_starts.as_slice(),
-            tables.places.as_slice(),
+            &tables.places,
             i,
         );
         let decode = decode_at(

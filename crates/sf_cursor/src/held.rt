@@ -9,7 +9,7 @@ ghost use Rattle.sf_cursor.specs.inner.Held.{AreInChunk, AreInChunks, ends_held}
 ghost use Rattle.sf_cursor.specs.inner.Sound.{counts_in};
 
 use crate::chunks::run_of;
-use sf_meaning::{ChunkRun, MovieFault, Sizes, count_of, size_at};
+use sf_meaning::{ChunkRun, MovieFault, PlaceList, Sizes, count_of, size_at};
 
 /// How many bytes a sample may have.
 const GREATEST_SAMPLE: u32 = 67_108_864;
@@ -104,7 +104,7 @@ fn chunk_held(
 /// is too long.
 pub(crate) fn chunks_held(
     runs: &[ChunkRun],
-    places: &[u64],
+    places: &PlaceList,
     sizes: &Sizes,
     track: u32,
     bytes: u64,
@@ -125,7 +125,7 @@ pub(crate) fn chunks_held(
     for c in 0..places.len() {
         r = run_of(runs, r, c as u32);
         let some = runs[r].per.min(count - from);
-        match chunk_held(places[c], sizes, from, some, track, bytes) {
+        match chunk_held(places.at(c), sizes, from, some, track, bytes) {
             Ok(()) => from += some,
             Err(fault) => return Err(fault),
         }

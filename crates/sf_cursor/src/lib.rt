@@ -10,15 +10,16 @@
 mod boxes;
 mod chunks;
 mod cursor;
-mod exact;
 mod held;
 mod look_up;
 mod starts;
 mod sums;
+mod tables;
 mod ticks;
 
 pub use cursor::Cursor;
 pub use sf_meaning::{MovieFault, PlainSample, TableFault};
+pub use tables::SoundTables;
 
 #[cfg(test)]
 mod tests;

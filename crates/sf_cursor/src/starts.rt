@@ -12,7 +12,7 @@ use std::alloc::{AllocError, Global};
 pub(crate) fn run_starts(alloc: Global, runs: &[TimeRun]) -> Result<Items<u32>, AllocError>
     ensures { IfOk result (λ starts. AreStarts (counts_of_runs runs.now) starts) }
 {
-    let mut starts = Items::new(alloc);
+    let mut starts = Items::from_vec(Vec::with_capacity(alloc, runs.len())?);
     let mut total = 0u32;
     for run in runs {
         starts.push(total)?;

@@ -6,27 +6,14 @@ ghost use Rattle.sf_meaning.specs.ReadTables.{sizes_view};
 ghost use Rattle.sf_cursor.specs.inner.Sound.{AreSums, HaveSums};
 
 use sf_list::Items;
-use sf_meaning::Sizes;
+use sf_meaning::{SizeList, Sizes};
 use std::alloc::{AllocError, Global};
 
 /// After how many samples their sizes are summed up again.
 const BLOCK: usize = 16;
 
-// The sum of sizes.
-fn sum_of(sizes: &[u32]) -> u64
-    requires { length sizes.now ≤ 2 ^ 32 }
-    ensures exact { result ≡ sum sizes.now }
-    ensures bound { result ≤ length sizes.now * 2 ^ 32 }
-{
-    let mut total = 0u64;
-    for size in sizes {
-        total += u64::from(*size);
-    }
-    total
-}
-
 // The sum of the sizes of a block, the last of which may be shorter.
-fn block_sum(sizes: &[u32], block: usize) -> u64
+fn block_sum(sizes: &SizeList, block: usize) -> u64
     requires within { 16 * block ≤ length sizes.now }
     requires few { length sizes.now ≤ 16777216 }
     ensures exact { result ≡ sum (take 16 (drop (16 * block) sizes.now)) }
@@ -34,17 +21,18 @@ fn block_sum(sizes: &[u32], block: usize) -> u64
 {
     let from = BLOCK * block;
     let to = sizes.len().min(from + BLOCK);
-    sum_of(&sizes[from..to])
+    sizes.sum(from, to)
 }
 
 // The sums before the blocks of sizes.
-fn each_sums(alloc: Global, sizes: &[u32]) -> Result<Items<u64>, AllocError>
+fn each_sums(alloc: Global, sizes: &SizeList) -> Result<Items<u64>, AllocError>
     requires { length sizes.now ≤ 16777216 }
     ensures { IfOk result (λ sums. AreSums sizes.now sums) }
 {
-    let mut sums = Items::new(alloc);
+    let blocks = sizes.len() / BLOCK + 1;
+    let mut sums = Items::from_vec(Vec::with_capacity(alloc, blocks)?);
     let mut total = 0u64;
-    for block in 0..sizes.len() / BLOCK + 1 {
+    for block in 0..blocks {
         sums.push(total)?;
         total += block_sum(sizes, block);
     }
@@ -58,12 +46,12 @@ pub(crate) fn block_sums(alloc: Global, sizes: &Sizes) -> Result<Items<u64>, All
 {
     match sizes {
         Sizes::Same { .. } => Ok(Items::new(alloc)),
-        Sizes::Each(sizes) => each_sums(alloc, sizes.as_slice()),
+        Sizes::Each(sizes) => each_sums(alloc, sizes),
     }
 }
 
 // The sum of the sizes before a sample.
-fn sum_before(sizes: &[u32], sums: &[u64], i: u32) -> u64
+fn sum_before(sizes: &SizeList, sums: &[u64], i: u32) -> u64
     requires sums { AreSums sizes.now sums.now }
     requires within { i ≤ length sizes.now }
     requires few { length sizes.now ≤ 16777216 }
@@ -71,7 +59,7 @@ fn sum_before(sizes: &[u32], sums: &[u64], i: u32) -> u64
 {
     let i = i as usize;
     let block = i / BLOCK;
-    sums[block] + sum_of(&sizes[BLOCK * block..i])
+    sums[block] + sizes.sum(BLOCK * block, i)
 }
 
 /// How many bytes so many samples have, from one on.
@@ -84,7 +72,6 @@ pub(crate) fn bytes_of(sizes: &Sizes, sums: &[u64], from: u32, count: u32) -> u6
     match sizes {
         Sizes::Same { size, .. } => u64::from(count) * u64::from(*size),
         Sizes::Each(sizes) => {
-            let sizes = sizes.as_slice();
             let end = sum_before(sizes, sums, from + count);
             end - sum_before(sizes, sums, from)
         }

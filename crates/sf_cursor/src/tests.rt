@@ -7,6 +7,7 @@ use std::alloc::{AllocError, Global};
 use std::test::Fail;
 
 mod faults;
+mod large;
 mod samples;
 
 /// The body of a sample table box: boxes one after the other, each of a type and of parts of its body.

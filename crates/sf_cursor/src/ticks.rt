@@ -74,12 +74,13 @@ fn after_runs(runs: &[TimeRun], from: usize, to: usize, before: Lasting) -> Last
 pub(crate) fn run_ticks(alloc: Global, runs: &[TimeRun]) -> Result<Items<u64>, AllocError>
     ensures { IfOk result (λ ticks. AreTicks runs.now ticks) }
 {
-    let mut ticks = Items::new(alloc);
+    let blocks = runs.len() / BLOCK + 1;
+    let mut ticks = Items::from_vec(Vec::with_capacity(alloc, blocks)?);
     let mut lasting = Lasting {
         left: 16_777_216,
         ticks: 0,
     };
-    for block in 0..runs.len() / BLOCK + 1 {
+    for block in 0..blocks {
         ticks.push(lasting.ticks)?;
         let from = BLOCK * block;
         let to = runs.len().min(from + BLOCK);

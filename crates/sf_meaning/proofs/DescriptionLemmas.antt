@@ -1,11 +1,11 @@
 -- Descriptions that are looked at one after the other.
-use Rattle.std.proofs.Common.{◌≡◌, ◌⊎◌, ℕ, zero, suc, ◌-◌, ◌<◌, ◌==◌, nat_le, min, true, false, not, ◌&&◌, List, [], ◌∷◌, ◌++◌, take, replicate, Result, Ok, Err, refl, sym, ap, ◌∙◌, arith, inl, inr}
+use Rattle.std.proofs.Common.{◌≡◌, ◌⊎◌, ℕ, zero, suc, ◌-◌, ◌*◌, ◌<◌, ◌==◌, nat_le, min, true, false, not, ◌&&◌, List, [], ◌∷◌, ◌++◌, take, replicate, Result, Ok, Err, refl, sym, ap, ◌∙◌, arith, inl, inr}
 use Rattle.sf_meaning.specs.Steps.{◌>>◌}
 use Rattle.sf_meaning.specs.TrackSamples.{descriptions_known}
 use Rattle.sf_meaning.specs.Tables.{InChunk, described}
 use Rattle.sf_meaning.specs.declared.faults.TableFault.TheVariants as tables
 use Rattle.sf_meaning.proofs.ListLemmas.{bool_tells}
-use Rattle.sf_meaning.proofs.SampleLemmas.{take_run}
+use Rattle.sf_meaning.proofs.SampleLemmas.{described_chunks, take_run}
 
 known-append : (at entries : ℕ) (xs ys : List ℕ) → descriptions_known at entries (xs ++ ys) ≡ (descriptions_known at entries xs >> descriptions_known at entries ys)
 known-append at entries [] ys = refl
@@ -21,13 +21,14 @@ pub unknown-replicate : (at entries n d : ℕ) → 0 < n → (not (d == 0) && na
 unknown-replicate at entries zero d lt f = absurd (omega (arith, lt))
 unknown-replicate at entries (suc n) d lt f = rw f refl
 
--- a chunk in front of others
-pub described_step : (at entries left : ℕ) (c : InChunk) (cs : List InChunk)
-    → descriptions_known at entries (take left (described (c ∷ cs)))
-    ≡ (descriptions_known at entries (replicate (min left c.per) c.description) >> descriptions_known at entries (take (left - min left c.per) (described cs)))
-described_step at entries left c cs =
-    ap (descriptions_known at entries) (take_run left c.per c.description (described cs))
-    ∙ known-append at entries (replicate (min left c.per) c.description) (take (left - min left c.per) (described cs))
+-- the chunks of an entry before others
+pub described_step : (at entries left n some : ℕ) (e : InChunk) (rest all : List InChunk) → all ≡ replicate n e ++ rest → some ≡ min left (n * e.per)
+    → descriptions_known at entries (take left (described all))
+    ≡ (descriptions_known at entries (replicate some e.description) >> descriptions_known at entries (take (left - some) (described rest)))
+described_step at entries left n some e rest all is same =
+    rw (is, described_chunks n e rest, same)
+    (ap (descriptions_known at entries) (take_run left (n * e.per) e.description (described rest))
+    ∙ known-append at entries (replicate (min left (n * e.per)) e.description) (take (left - min left (n * e.per)) (described rest)))
 
 -- what stops the first step stops both
 pub stops_both : {E : Type 0} (none e : E) (a b all : Result (Unit {0}) E) → (a >> b) ≡ all → (e ≡ none) ⊎ (a ≡ Err e) → (e ≡ none) ⊎ (all ≡ Err e)

@@ -16,9 +16,13 @@ is_compact p = bytes_eq p.head.kind.0 (codes "stz2")
 abbrev pub field_bits : List ℕ → ℕ
 field_bits body = get_or body 7 0
 
+-- both halves of each byte, the high one first
+abbrev pub both_halves : List ℕ → List ℕ
+both_halves bytes = flat_map (λ b. (b / 16) ∷ (b % 16) ∷ []) bytes
+
 -- so many sizes of four bits: the earlier sample's in the high half of its byte
 abbrev pub halves : ℕ → List ℕ → List ℕ
-halves n bytes = take n (flat_map (λ b. (b / 16) ∷ (b % 16) ∷ []) (take ((n + 1) / 2) bytes))
+halves n bytes = take n (both_halves (take ((n + 1) / 2) bytes))
 
 -- so many numbers of two bytes
 abbrev pub half_words : ℕ → List ℕ → List ℕ

@@ -1,5 +1,5 @@
 -- What the file of a track's chunks means: its movie, with the places of its samples, and the samples of each chunk.
-use Rattle.std.specs.Prelude.{ℕ, pos, ◌+◌, ◌-◌, ◌-ℤ◌, List, [], ◌∷◌, length, map}
+use Rattle.std.specs.Prelude.{ℕ, pos, ◌+◌, ◌-◌, ◌-ℤ◌, List, [], ◌∷◌}
 use Rattle.std.specs.List.{flat_map}
 use Rattle.sf_tick.specs.declared.types.Stored.{Stored}
 use Rattle.sf_meaning.specs.Stbl.{Timed, Row}

@@ -1,7 +1,7 @@
 -- Headers as they are written that the laws read back: times and durations, the data reference, and a file's start.
 use Rattle.std.specs.Prelude.{ℕ, nat_le, Bool, List, [], ◌∷◌, ◌++◌, codes, if◌then◌else◌}
 use Rattle.sf_box.specs.Boxes.{be32, be64}
-use Rattle.sf_box.specs.Parts.{Part, tiled}
+use Rattle.sf_box.specs.Parts.{Part}
 use Rattle.sf_meaning.specs.Stbl.{zeros}
 
 -- Whether a duration needs version 1 of a header, with times and duration in eight bytes: in four the greatest number says that it isn't known (8.2.2.3).

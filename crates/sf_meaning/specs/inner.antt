@@ -3,3 +3,5 @@ pub mod Found
 pub mod Tracks
 pub mod Faults
 pub mod TrackTables
+pub mod PlaceList
+pub mod SizeList

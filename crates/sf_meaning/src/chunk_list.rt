@@ -6,6 +6,7 @@ ghost use Rattle.sf_meaning.specs.SampleTables.{begins_rising};
 ghost use Rattle.sf_meaning.specs.Tables.{chunk_entries, spread_over, rising};
 
 use crate::entries::{ChunkAt, ChunkRun};
+use crate::place_list::PlaceList;
 use std::alloc::{AllocError, Global};
 
 // The entry that holds for a chunk, and those after it, where the current one holds up to it.
@@ -28,7 +29,7 @@ fn entry_for<'a>(
 pub(crate) fn chunk_list(
     alloc: Global,
     runs: &[ChunkRun],
-    places: &[u64],
+    places: &PlaceList,
 ) -> Result<Vec<ChunkAt>, AllocError>
     requires rising { begins_rising (spreads_as runs.now) ≡ true }
     requires few { length places.now < 2 ^ 32 }
@@ -47,7 +48,7 @@ pub(crate) fn chunk_list(
         current = held;
         behind = left;
         chunks.push(ChunkAt {
-            place: places[i as usize],
+            place: places.at(i as usize),
             per: held.per,
             description: held.description,
         })?;

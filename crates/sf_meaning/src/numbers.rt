@@ -17,26 +17,9 @@ pub(crate) fn words(
     requires { from + 4 * count ≤ length table.now }
     ensures { IfOk result (λ numbers. numbers.items ≡ words count (drop from table.now)) }
 {
-    let mut numbers = Vec::new(alloc);
+    let mut numbers = Vec::with_capacity(alloc, count as usize)?;
     for i in 0..count as usize {
         numbers.push(read_u32(table, from as usize + 4 * i))?;
-    }
-    Ok(numbers)
-}
-
-/// The same numbers, with room for eight bytes each.
-pub(crate) fn long_words(
-    alloc: Global,
-    table: &[u8],
-    from: u32,
-    count: u32,
-) -> Result<Vec<u64>, AllocError>
-    requires { from + 4 * count ≤ length table.now }
-    ensures { IfOk result (λ numbers. numbers.items ≡ words count (drop from table.now)) }
-{
-    let mut numbers = Vec::new(alloc);
-    for i in 0..count as usize {
-        numbers.push(u64::from(read_u32(table, from as usize + 4 * i)))?;
     }
     Ok(numbers)
 }
@@ -51,7 +34,7 @@ pub(crate) fn wide_words(
     requires { from + 8 * count ≤ length table.now }
     ensures { IfOk result (λ numbers. numbers.items ≡ wide_words count (drop from table.now)) }
 {
-    let mut numbers = Vec::new(alloc);
+    let mut numbers = Vec::with_capacity(alloc, count as usize)?;
     for i in 0..count as usize {
         numbers.push(read_u64(table, from as usize + 8 * i))?;
     }
@@ -64,13 +47,13 @@ pub(crate) fn half_words(
     table: &[u8],
     from: u32,
     count: u32,
-) -> Result<Vec<u32>, AllocError>
+) -> Result<Vec<u16>, AllocError>
     requires { from + 2 * count ≤ length table.now }
     ensures { IfOk result (λ numbers. numbers.items ≡ half_words count (drop from table.now)) }
 {
-    let mut numbers = Vec::new(alloc);
+    let mut numbers = Vec::with_capacity(alloc, count as usize)?;
     for i in 0..count as usize {
-        numbers.push(u32::from(read_u16(table, from as usize + 2 * i)))?;
+        numbers.push(read_u16(table, from as usize + 2 * i))?;
     }
     Ok(numbers)
 }

@@ -7,24 +7,24 @@ ghost use Rattle.sf_meaning.specs.SampleTables.{places_told};
 
 use crate::counts::counted;
 use crate::faults::TableFault;
-use crate::numbers::{long_words, wide_words};
+use crate::numbers::{wide_words, words};
+use crate::place_list::PlaceList;
 use sf_box::{BoxHead, FourCc};
-use sf_list::Items;
 use std::alloc::Global;
 
 /// The places of the chunks that a chunk offset box says, `stco` or `co64`, in bytes from the start of the
 /// file, or the first thing that is wrong with it.
 #[tactic(auto, using(crate::proofs::SizeLemmas::length_words, crate::proofs::SizeLemmas::length_wide_words), unfolding(crate::specs::SampleTables::places_told))]
-pub fn read_places(alloc: Global, head: BoxHead, body: &[u8]) -> Result<Items<u64>, TableFault>
+pub fn read_places(alloc: Global, head: BoxHead, body: &[u8]) -> Result<PlaceList, TableFault>
     ensures places { Gives TableFault.NoMemory (λ places. places) result (places_told (boxed head body.now)) }
     ensures few { IfOk result (λ places. length places < 2 ^ 32) }
 {
     if head.kind == FourCc(*b"co64") {
         let count = counted(8, head, body)?;
         let places = wide_words(alloc, body, 8, count)?;
-        return Ok(Items::from_vec(places));
+        return Ok(PlaceList::of_eight(places));
     }
     let count = counted(4, head, body)?;
-    let places = long_words(alloc, body, 8, count)?;
-    Ok(Items::from_vec(places))
+    let places = words(alloc, body, 8, count)?;
+    Ok(PlaceList::of_four(places))
 }

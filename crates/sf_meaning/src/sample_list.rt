@@ -22,7 +22,7 @@ pub fn size_at(sizes: &Sizes, i: u32) -> u32
 {
     match sizes {
         Sizes::Same { size, .. } => *size,
-        Sizes::Each(sizes) => sizes.as_slice()[i as usize],
+        Sizes::Each(sizes) => sizes.at(i as usize),
     }
 }
 

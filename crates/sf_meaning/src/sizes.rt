@@ -1,17 +1,17 @@
 //! The sample size box (ISO/IEC 14496-12, 8.7.3.2) and the compact one (8.7.3.3), as they are read.
 
-ghost use Rattle.std.specs.Prelude.{◌≡◌, true, ◌+◌, ◌*◌, ◌/◌, ◌%◌, ◌≤◌, [], ◌∷◌, length, drop, replicate, Ok, Err, IfOk, IfErr, if◌then◌else◌};
-ghost use Rattle.std.specs.List.{flat_map};
+ghost use Rattle.std.specs.Prelude.{◌≡◌, true, ◌+◌, ◌*◌, ◌/◌, ◌%◌, ◌≤◌, [], length, drop, Ok, Err, IfOk, IfErr, if◌then◌else◌};
 ghost use Rattle.sf_meaning.specs.Answers.{Gives};
 ghost use Rattle.sf_meaning.specs.Steps.{boxed};
-ghost use Rattle.sf_meaning.specs.SampleSizes.{is_compact, field_bits, halves, half_words, fields, fields_length, known_field, sizes_of, sizes_whole, sizes_told};
+ghost use Rattle.sf_meaning.specs.SampleSizes.{is_compact, field_bits, fields, fields_length, known_field, sizes_of, sizes_whole, sizes_told};
 ghost use Rattle.sf_meaning.specs.Tables.{sample_count, sizes_in};
 ghost use Rattle.sf_meaning.specs.ReadTables.{sizes_view};
 
 use crate::faults::TableFault;
 use crate::numbers::{half_words, words};
+use crate::size_list::SizeList;
 use sf_box::{BoxHead, FourCc, read_u32};
-use sf_list::Items;
+use sf_list::Bytes;
 use std::alloc::{AllocError, Global};
 
 /// The sizes of the samples of a track, in bytes.
@@ -20,7 +20,7 @@ pub enum Sizes {
     /// So many samples of one size.
     Same { size: u32, count: u32 },
     /// The size of each.
-    Each(Items<u32>),
+    Each(SizeList),
 }
 
 // Whether a box is stz2.
@@ -83,55 +83,23 @@ fn whole(head: BoxHead, body: &[u8]) -> Result<u32, TableFault>
     Ok(count)
 }
 
-// Both halves of each byte, the high one first.
-fn all_halves(alloc: Global, bytes: &[u8]) -> Result<Items<u32>, AllocError>
-    ensures { IfOk result (λ sizes. sizes ≡ flat_map (λ b. (b / 16) ∷ (b % 16) ∷ []) bytes.now) }
-{
-    let mut sizes = Items::new(alloc);
-    for byte in bytes {
-        let byte = u32::from(*byte);
-        sizes.push(byte / 16)?;
-        sizes.push(byte % 16)?;
-    }
-    Ok(sizes)
-}
-
-// So many sizes of four bits.
-fn halves(alloc: Global, bytes: &[u8], count: u32) -> Result<Items<u32>, AllocError>
-    requires { (count + 1) / 2 ≤ length bytes.now }
-    ensures { IfOk result (λ sizes. sizes ≡ halves count bytes.now) }
-{
-    let (front, _) = bytes.split_at((count as usize + 1) / 2);
-    let mut sizes = all_halves(alloc, front)?;
-    sizes.cut(count as usize);
-    Ok(sizes)
-}
-
-// So many sizes of eight bits.
-fn bytes_as_sizes(alloc: Global, bytes: &[u8]) -> Result<Items<u32>, AllocError>
-    ensures { IfOk result (λ sizes. sizes ≡ bytes.now) }
-{
-    let mut sizes = Items::new(alloc);
-    for byte in bytes {
-        sizes.push(u32::from(*byte))?;
-    }
-    Ok(sizes)
-}
-
 // So many sizes in fields of so many bits.
-fn fields(alloc: Global, bits: u8, count: u32, body: &[u8]) -> Result<Items<u32>, AllocError>
+fn fields(alloc: Global, bits: u8, count: u32, body: &[u8]) -> Result<SizeList, AllocError>
     requires bits { known_field bits ≡ true }
     requires long { 12 + (count * bits + 7) / 8 ≤ length body.now }
     ensures { IfOk result (λ sizes. sizes ≡ fields bits count (drop 12 body.now)) }
 {
     let (_, bytes) = body.split_at(12);
     match bits {
-        4 => halves(alloc, bytes, count),
+        4 => {
+            let (front, _) = bytes.split_at((count as usize + 1) / 2);
+            Ok(SizeList::of_4(Bytes::from_slice(alloc, front)?, count))
+        }
         8 => {
             let (front, _) = bytes.split_at(count as usize);
-            bytes_as_sizes(alloc, front)
+            Ok(SizeList::of_8(Bytes::from_slice(alloc, front)?))
         }
-        _ => Ok(Items::from_vec(half_words(alloc, body, 12, count)?)),
+        _ => Ok(SizeList::of_16(half_words(alloc, body, 12, count)?)),
     }
 }
 
@@ -149,5 +117,5 @@ pub fn read_sizes(alloc: Global, head: BoxHead, body: &[u8]) -> Result<Sizes, Ta
     if size != 0 {
         return Ok(Sizes::Same { size, count });
     }
-    Ok(Sizes::Each(Items::from_vec(words(alloc, body, 12, count)?)))
+    Ok(Sizes::Each(SizeList::of_32(words(alloc, body, 12, count)?)))
 }

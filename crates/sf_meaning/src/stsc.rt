@@ -23,7 +23,7 @@ pub(crate) fn all_chunk_runs(
     requires { 8 + 12 * count ≤ length stsc.now }
     ensures { IfOk result (λ runs. spreads_as runs.items ≡ spreads count (drop 8 stsc.now)) }
 {
-    let mut runs = Vec::new(alloc);
+    let mut runs = Vec::with_capacity(alloc, count as usize)?;
     for i in 0..count as usize {
         runs.push(ChunkRun {
             first: read_u32(stsc, 8 + 12 * i),

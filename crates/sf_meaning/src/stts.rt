@@ -19,7 +19,7 @@ pub(crate) fn time_runs(alloc: Global, stts: &[u8], count: u32) -> Result<Vec<Ti
     requires { 8 + 8 * count ≤ length stts.now }
     ensures { IfOk result (λ runs. time_runs runs.items ≡ run_pairs count (drop 8 stts.now)) }
 {
-    let mut runs = Vec::new(alloc);
+    let mut runs = Vec::with_capacity(alloc, count as usize)?;
     for i in 0..count as usize {
         runs.push(TimeRun {
             count: read_u32(stts, 8 + 8 * i),

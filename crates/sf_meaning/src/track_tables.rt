@@ -14,6 +14,7 @@ use crate::ctts::read_ctts;
 use crate::entries::{ChunkRun, TimeRun};
 use crate::faults::TableFault;
 use crate::found::Found;
+use crate::place_list::PlaceList;
 use crate::places::read_places;
 use crate::sizes::{Sizes, read_sizes};
 use crate::stsc::read_stsc;
@@ -39,7 +40,7 @@ pub struct Tables {
     pub stsc_at: u64,
     pub sizes: Sizes,
     /// Of the chunks, in bytes from the start of the file.
-    pub places: Items<u64>,
+    pub places: PlaceList,
     /// The numbers of the sync samples, where they are told.
     pub sync: Option<Items<u32>>,
 }
@@ -142,7 +143,7 @@ fn sizes_table(alloc: Global, at: u64, boxes: &[Found<'_>]) -> Result<Sizes, Tab
 
 // The places of the chunks.
 #[tactic(auto, unfolding(crate::specs::TrackSamples::places_table))]
-fn places_table(alloc: Global, at: u64, boxes: &[Found<'_>]) -> Result<Items<u64>, TableFault>
+fn places_table(alloc: Global, at: u64, boxes: &[Found<'_>]) -> Result<PlaceList, TableFault>
     ensures table { Gives TableFault.NoMemory (λ places. places) result (places_table at (pieces boxes.now)) }
     ensures few { IfOk result (λ places. length places < 2 ^ 32) }
 {

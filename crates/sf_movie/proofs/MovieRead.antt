@@ -17,9 +17,7 @@ use Rattle.sf_meaning.specs.declared.faults.MovieFault.TheVariants as movies
 use Rattle.sf_meaning.specs.declared.movie.PlainMovie.{PlainMovie}
 use Rattle.sf_meaning.specs.declared.movie.PlainTrack.{PlainTrack}
 use Rattle.sf_meaning.proofs.MeaningLaws.{movie_accepted, scale_of_movie, tracks_of_movie}
-use Rattle.sf_movie.specs.declared.parts.MovieParts.{MovieParts}
-use Rattle.sf_movie.specs.declared.track.Track.{Track}
-use Rattle.sf_movie.specs.inner.Kept.{IsKept, IsWhole, loaded_of, parts_read, plain_of, track_read, tracks_read}
+use Rattle.sf_movie.specs.inner.Kept.{Track, MovieParts, IsKept, IsWhole, loaded_of, parts_read, plain_of, track_read, tracks_read}
 use Rattle.sf_movie.proofs.TrackRead.{WidthLaw, bind_ok, entries_kept, track_is, whole_kept, wide_kept}
 use Rattle.sf_meaning.specs.TrackSamples.{Tables, samples_in}
 use Rattle.sf_meaning.specs.declared.movie.PlainSample.{PlainSample}

@@ -19,8 +19,7 @@ use Rattle.sf_meaning.specs.declared.faults.TableFault.{TableFault}
 use Rattle.sf_meaning.specs.declared.movie.PlainSample.{PlainSample}
 use Rattle.sf_meaning.specs.declared.movie.PlainTrack.{PlainTrack}
 use Rattle.sf_cursor.specs.Cursor.{tables_in}
-use Rattle.sf_movie.specs.declared.track.Track.{Track}
-use Rattle.sf_movie.specs.inner.Kept.{IsWhole, plain_of, track_of, track_read}
+use Rattle.sf_movie.specs.inner.Kept.{Track, IsWhole, plain_of, track_of, track_read}
 
 abbrev of_table : {A : Type 0} → Table A → Step A
 of_table r = as_fault (λ (f : TableFault). movies.Table f) r
@@ -153,14 +152,14 @@ said_ok (Ok u) h x k e = refl
 said_ok (Err f) h x k e = absurd (cc e)
 
 kept_said : (bytes number : ℕ) (r : Step TrackParts) (k : Track) → (r >>= from_parts bytes number) ≡ Ok k
-    → (scale : ℕ) × (entries : ℕ) × (samples_said scale entries (length k.cursor.sizes) k.cursor ≡ Ok tt)
+    → (scale : ℕ) × (entries : ℕ) × (samples_said scale entries (length k.samples.sizes) k.samples ≡ Ok tt)
 kept_said bytes number (Ok p) k e =
     let q : Table (Unit {0}) = samples_said p.heads.scale (length p.entries) (length p.tables.sizes) p.tables in
     let track : Track = track_of p.heads p.entries p.tables in
     let same : track ≡ k = last_ok (of_table q >> held_in bytes number 0 (listed p.tables)) track k e in (
       p.heads.scale,
       length p.entries,
-      subst (λ (x : Track). samples_said p.heads.scale (length p.entries) (length x.cursor.sizes) x.cursor ≡ Ok tt) same (said_ok q (held_in bytes number 0 (listed p.tables)) track k e),
+      subst (λ (x : Track). samples_said p.heads.scale (length p.entries) (length x.samples.sizes) x.samples ≡ Ok tt) same (said_ok q (held_in bytes number 0 (listed p.tables)) track k e),
     )
 kept_said bytes number (Err f) k e = absurd (cc e)
 
@@ -173,7 +172,7 @@ pub whole_kept : ((scale entries : ℕ) (t : Tables) (samples : List PlainSample
     → (bytes scale number : ℕ) (trak : Piece) (k : Track) → track_read bytes scale number trak ≡ Ok k → IsWhole k
 whole_kept law bytes scale number trak k e =
     let s = kept_said bytes number (parts_in scale trak) k (read_parts bytes scale number trak ∙ e) in
-    law s.0 s.1 k.cursor (listed k.cursor) (all_listed s.0 s.1 k.cursor s.2)
+    law s.0 s.1 k.samples (listed k.samples) (all_listed s.0 s.1 k.samples s.2)
 
 -- ---- the widths of its entries
 

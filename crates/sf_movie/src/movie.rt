@@ -12,11 +12,13 @@ ghost use Rattle.sf_movie.specs.Loads.{IsWithin, LoadsOver, OfTold, Reads};
 ghost use Rattle.sf_tick.specs.Tick.{us};
 
 use crate::load::{LoadFault, load_fault};
-use crate::parts::{MovieParts, parts_read};
+use crate::parts::{MovieParts, parts_kept};
 use crate::shown::{length_us, shown_us};
 use crate::track::Track;
 use crate::walk::{find_moov, read_body};
+use sf_cursor::Cursor;
 use sf_entry::{Entry, EntryAt, lengths_have_a_width};
+use sf_list::Bytes;
 use sf_meaning::{MovieFault, PlainSample, TrackKind, samples_one_by_one};
 use sf_world::Source;
 use std::alloc::Global;
@@ -25,7 +27,7 @@ use std::marker::Model;
 /// A movie, as its movie box tells it. It keeps the tables of each track, and never a list of the samples.
 #[derive(Drop)]
 pub struct Movie {
-    parts: MovieParts,
+    parts: MovieParts<Cursor>,
 }
 
 impl Model for Movie {
@@ -41,21 +43,21 @@ impl Model for Movie {
 }
 
 // The movie that the body of a movie box is, which begins at a place of a file of so many bytes.
-fn movie_in(alloc: Global, moov: &[u8], at: u64, file_len: u64) -> Result<Movie, MovieFault>
-    requires { at + length moov.now < 2 ^ 64 }
-    ensures movie { Gives MovieFault.NoMemory (λ m. m.movie) result (movie_in moov.now at file_len) }
-    ensures entries { IfOk result (λ m. moov_entries moov.now at ≡ Ok m.entries) }
+fn movie_in(alloc: Global, moov: Bytes, at: u64, file_len: u64) -> Result<Movie, MovieFault>
+    requires { at + length moov < 2 ^ 64 }
+    ensures movie { Gives MovieFault.NoMemory (λ m. m.movie) result (movie_in moov at file_len) }
+    ensures entries { IfOk result (λ m. moov_entries moov at ≡ Ok m.entries) }
 {
     samples_one_by_one();
     lengths_have_a_width();
-    match parts_read(alloc, moov, at, file_len) {
+    match parts_kept(alloc, moov, at, file_len) {
         Ok(parts) => Ok(Movie { parts }),
         Err(fault) => Err(fault),
     }
 }
 
 // A track by its number.
-fn track_at(tracks: &[Track], t: u32) -> &Track
+fn track_at(tracks: &[Track<Cursor>], t: u32) -> &Track<Cursor>
     requires { t < length tracks.now }
     ensures { slice_get tracks.now t ≡ Some result.now }
 {
@@ -104,7 +106,7 @@ impl Movie {
         let end = source.length();
         let moov = find_moov(source, end)?;
         let body = read_body(alloc, source, moov, end)?;
-        match movie_in(alloc, body.as_slice(), moov.at + moov.head, end) {
+        match movie_in(alloc, body, moov.at + moov.head, end) {
             Ok(movie) => Ok(movie),
             Err(fault) => Err(load_fault(fault)),
         }
@@ -155,7 +157,7 @@ impl Movie {
         requires { t < length self.now.movie.tracks }
         ensures { result ≡ sample_count self.now.movie t }
     {
-        track_at(self.parts.tracks.as_slice(), t).cursor.count()
+        track_at(self.parts.tracks.as_slice(), t).samples.count()
     }
 
     /// A sample of a track, by its number from 0.
@@ -164,7 +166,7 @@ impl Movie {
         ensures sample { sample_of self.now.movie t i ≡ Some result }
         ensures short { result.size ≤ 67108864 }
     {
-        track_at(self.parts.tracks.as_slice(), t).cursor.sample(i)
+        track_at(self.parts.tracks.as_slice(), t).samples.sample(i)
     }
 
     /// When a sample of a track is shown, in microseconds from the start of its file. Samples count from 0.
@@ -173,7 +175,7 @@ impl Movie {
         ensures { shown self.now.movie t i ≡ Some result }
     {
         let track = track_at(self.parts.tracks.as_slice(), t);
-        let sample = track.cursor.sample(i);
+        let sample = track.samples.sample(i);
         let lead_us = length_us(track.shift.lead, self.parts.scale);
         let media_us = length_us(track.shift.media_time, track.scale);
         shown_us(sample.compose, track.scale, lead_us, media_us)

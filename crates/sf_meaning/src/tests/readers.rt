@@ -47,6 +47,15 @@ fn runs_are_read(rt: HostRuntime) -> Result<(), Fail> {
     Ok(())
 }
 
+/// Whether places are these.
+fn are_places(places: &PlaceList, wanted: &[u64]) -> bool {
+    let mut same = places.len() == wanted.len();
+    for c in 0..wanted.len() {
+        same = same && c < places.len() && places.at(c) == wanted[c];
+    }
+    same
+}
+
 #[test]
 fn entries_places_and_numbers_are_read(rt: HostRuntime) -> Result<(), Fail> {
     let alloc = rt.alloc();
@@ -64,12 +73,12 @@ fn entries_places_and_numbers_are_read(rt: HostRuntime) -> Result<(), Fail> {
     let near = read_places(alloc, head(b"stco"), two)
         .ok()
         .ok_or("refused")?;
-    assert_eq!(rt; near.as_slice(), [1, 2].as_slice());
+    assert!(rt; are_places(&near, &[1, 2]));
     let one = b"\0\0\0\0\0\0\0\x01\0\0\0\x01\0\0\0\x02";
     let far = read_places(alloc, head(b"co64"), one)
         .ok()
         .ok_or("refused")?;
-    assert_eq!(rt; far.as_slice(), [4_294_967_298].as_slice());
+    assert!(rt; are_places(&far, &[4_294_967_298]));
     let numbers = read_stss(alloc, head(b"stss"), two).ok().ok_or("refused")?;
     assert_eq!(rt; numbers.as_slice(), [1, 2].as_slice());
     Ok(())
@@ -88,8 +97,8 @@ fn sizes_in(
             all.push(count)?;
         }
         Ok(Sizes::Each(sizes)) => {
-            for size in sizes.as_slice() {
-                all.push(*size)?;
+            for i in 0..sizes.len() {
+                all.push(sizes.at(i))?;
             }
         }
         Err(fault) => return Ok(Err(fault)),

@@ -17,12 +17,19 @@ use Rattle.sf_meaning.specs.declared.faults.MovieFault.TheVariants.{Head, Table}
 use Rattle.sf_meaning.specs.declared.movie.PlainTrack.{PlainTrack}
 use Rattle.sf_cursor.specs.Cursor.{tables_in}
 use Rattle.sf_movie.specs.Loaded.{Loaded}
-use Rattle.sf_movie.specs.declared.track.Track.{Track}
-use Rattle.sf_movie.specs.declared.parts.MovieParts.{MovieParts}
+use Rattle.sf_movie.specs.declared.track.Track.{Track as HeldTrack}
+use Rattle.sf_movie.specs.declared.parts.MovieParts.{MovieParts as HeldParts}
+
+-- a track that is kept, and what is kept of a movie, seen by their tables, with cursors over them or without
+abbrev pub Track : Type 0
+Track = HeldTrack Tables
+
+abbrev pub MovieParts : Type 0
+MovieParts = HeldParts Tables
 
 -- the track that is kept, with the samples that its tables list
 abbrev pub plain_of : Track → PlainTrack
-plain_of t = record { kind = t.kind; scale = t.scale; lead = t.shift.lead; media_time = t.shift.media_time; samples = listed t.cursor }
+plain_of t = record { kind = t.kind; scale = t.scale; lead = t.shift.lead; media_time = t.shift.media_time; samples = listed t.samples }
 
 -- the movie that is kept
 abbrev pub loaded_of : MovieParts → Loaded
@@ -33,7 +40,7 @@ loaded_of p = record {
 
 -- each sample of a track has a size
 abbrev pub IsWhole : Track → Type 0
-IsWhole t = length (listed t.cursor) ≡ length t.cursor.sizes
+IsWhole t = length (listed t.samples) ≡ length t.samples.sizes
 
 -- What is kept is a movie that was accepted, in a file of so many bytes.
 pub record IsKept (p : MovieParts) : Type 0 where
@@ -47,7 +54,7 @@ pub record IsKept (p : MovieParts) : Type 0 where
 
 -- what is kept of a track with these headers, sample entries and tables
 abbrev pub track_of : TrackHeads → List EntryAt → Tables → Track
-track_of h es t = record { kind = kind_in es; scale = h.scale; shift = h.shift; entries = es; cursor = t }
+track_of h es t = record { kind = kind_in es; scale = h.scale; shift = h.shift; entries = es; samples = t }
 
 -- a track of a number, read as a cursor reads its tables
 unfoldable pub track_read : ℕ → ℕ → ℕ → Piece → Step Track

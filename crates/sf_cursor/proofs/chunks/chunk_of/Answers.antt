@@ -1,4 +1,4 @@
-use Rattle.std.proofs.Common.{◌+◌, ◌-◌, ◌/◌, length, get_or, refl, arith}
+use Rattle.std.proofs.Common.{◌+◌, ◌-◌, ◌/◌, length, get_or, sym, arith}
 use Rattle.sf_cursor.specs.inner.Sound.{no_run}
 use Rattle.sf_cursor.proofs.RunChunks.{InEntry, least_first}
 use Rattle.sf_cursor.proofs.ChunkStarts.{chunk_starts_rise, entry_found}
@@ -24,8 +24,8 @@ overflow_add-c c =
     c.last_begun-r.ensures.there c.last_begun-r.ensures.begun c.last_begun-r.ensures.next c.requires.few c.requires.reach in
     omega (arith, e.there, c.requires.many)
 
-pub bounds-places-c : goal.bounds-places-c
-bounds-places-c c =
+pub at-requires : goal.at-requires
+at-requires c =
     let e : InEntry c.args.runs.now (length c.args.places.now) c.last_begun-r.result c.args.i (c.args.i - get_or c.args.starts.now c.last_begun-r.result 0) =
     entry_found c.args.runs.now (length c.args.places.now) c.args.starts.now c.args.i c.last_begun-r.result c.requires.order c.requires.starts
     c.last_begun-r.ensures.there c.last_begun-r.ensures.begun c.last_begun-r.ensures.next c.requires.few c.requires.reach in
@@ -48,6 +48,6 @@ returns-clause-chunk c =
           + (c.args.i - get_or c.args.starts.now c.last_begun-r.result 0) / (get_or c.args.runs.now c.last_begun-r.result no_run).per;
       is = e.is;
       before = e.before;
-      place = refl;
+      place = sym c.at.ensures;
       description = e.description;
     }

@@ -9,8 +9,8 @@ use Rattle.sf_cursor.proofs.chunks.chunk_starts.Goals.{then-r-runs, else-r-runs}
 pub loop-r-init : goal.loop-r-init
 loop-r-init c =
     record {
-      long = rw c.new-starts.ensures refl;
-      at = λ k lt. absurd (omega (arith, ap length c.new-starts.ensures, lt));
+      long = rw (c.from_vec-starts.ensures, c.in_ok-with_capacity.ensures.items) refl;
+      at = λ k lt. absurd (omega (arith, ap length (c.from_vec-starts.ensures ∙ c.in_ok-with_capacity.ensures.items), lt));
       total = λ some. begins_at c.args.runs.now c.args.chunks c.requires some;
     }
 

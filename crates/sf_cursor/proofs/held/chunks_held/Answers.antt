@@ -1,6 +1,7 @@
-use Rattle.std.proofs.Common.{◌≡◌, ℕ, ◌+◌, ◌-◌, ◌<◌, ◌≤◌, min, List, length, get_or, refl, sym, ◌∙◌, arith}
+use Rattle.std.proofs.Common.{◌≡◌, ℕ, ◌+◌, ◌-◌, ◌<◌, ◌≤◌, min, List, length, get_or, refl, sym, subst, ◌∙◌, arith}
 use Rattle.std.proofs.lemmas.Bool.{eqb-true}
 use Rattle.sf_meaning.specs.ReadTables.{sizes_view}
+use Rattle.sf_cursor.specs.inner.Held.{AreInChunk}
 use Rattle.sf_cursor.specs.inner.Sound.{counts_in, no_run}
 use Rattle.sf_cursor.proofs.HeldSamples.{chunk_here, held_all, no_samples, reached_next}
 use Rattle.sf_cursor.proofs.RunChunks.{count_there, first_first, is_some, is_there, least_first, no_chunks, no_more}
@@ -36,7 +37,8 @@ returns-in-Err c =
     omega (arith, c.min-some.ensures, count, c.count_of-count.ensures) in
     λ ss long all.
     sym (c.loop-c.invariant.held ss all
-    ∙ c.in-Err.ensures.err ss (chunk_here counts c.args.places.now sizes ss c.loop-c.c c.loop-c.from c.min-some.result c.loop-c.invariant.reached some all))
+    ∙ c.in-Err.ensures.err ss (subst (λ (p : ℕ). AreInChunk p sizes c.loop-c.from c.min-some.result ss) (sym c.at.ensures)
+    (chunk_here counts c.args.places.now sizes ss c.loop-c.c c.loop-c.from c.min-some.result c.loop-c.invariant.reached some all)))
 
 pub loop-c-preserved : goal.loop-c-preserved
 loop-c-preserved c =
@@ -53,7 +55,8 @@ loop-c-preserved c =
       holds = record { there = c.run_of-r.ensures.there; begun = omega (arith, c.run_of-r.ensures.begun); next = c.run_of-r.ensures.next };
       held = λ ss all.
           c.loop-c.invariant.held ss all
-          ∙ c.in-Ok.ensures.ok ss (chunk_here counts c.args.places.now sizes ss c.loop-c.c c.loop-c.from c.min-some.result c.loop-c.invariant.reached some all);
+          ∙ c.in-Ok.ensures.ok ss (subst (λ (p : ℕ). AreInChunk p sizes c.loop-c.from c.min-some.result ss) (sym c.at.ensures)
+          (chunk_here counts c.args.places.now sizes ss c.loop-c.c c.loop-c.from c.min-some.result c.loop-c.invariant.reached some all));
     }
 
 pub returns : goal.returns

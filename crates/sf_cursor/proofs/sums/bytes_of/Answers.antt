@@ -17,15 +17,15 @@ returns-in-Same c =
 
 pub overflow_sub-result : goal.overflow_sub-result
 overflow_sub-result c =
-    let xs : List ℕ = c.as_slice-sizes.result.now in
+    let xs : List ℕ = c.in-Each.sizes in
     let low : sum (take c.args.from xs) ≤ sum (take (c.args.from + c.args.count) xs) = sum-take xs c.args.from (c.args.from + c.args.count) (omega arith) in
     omega (arith, low, c.sum_before.ensures, c.sum_before-end.ensures)
 
 pub returns-in-Each : goal.returns-in-Each
 returns-in-Each c =
-    let xs : List ℕ = c.as_slice-sizes.result.now in
+    let xs : List ℕ = c.in-Each.sizes in
     let more : sum (take (c.args.from + c.args.count) xs) ≡ sum (take c.args.from xs) + sum (take c.args.count (drop c.args.from xs)) = sum-more xs c.args.from c.args.count in
-    let here : sizes_view c.args.sizes.now ≡ xs = ap sizes_view c.in-Each.is ∙ sym c.as_slice-sizes.ensures in
+    let here : sizes_view c.args.sizes.now ≡ xs = ap sizes_view c.in-Each.is in
     let part : sum (take c.args.count (drop c.args.from (sizes_view c.args.sizes.now))) ≡ sum (take c.args.count (drop c.args.from xs)) =
     ap (λ (ys : List ℕ). sum (take c.args.count (drop c.args.from ys))) here in
     omega (arith, more, part, c.sum_before.ensures, c.sum_before-end.ensures)

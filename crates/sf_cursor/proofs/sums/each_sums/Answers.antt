@@ -12,7 +12,7 @@ loop-block-preserved c =
       long = rw c.in_ok-push.ensures.ok (length_push c.loop-block.sums c.loop-block.total ∙ ap (λ (n : ℕ). n + 1) c.loop-block.invariant.long);
       at = rw c.in_ok-push.ensures.ok (more_at (λ (k : ℕ). sum (take (16 * k) c.args.sizes.now)) c.loop-block.sums b c.loop-block.total c.loop-block.invariant.long c.loop-block.invariant.at c.loop-block.invariant.total);
       bounds = rw c.in_ok-push.ensures.ok (more_under (16777216 * 2 ^ 32) c.loop-block.sums c.loop-block.total c.loop-block.invariant.bounds (omega (arith, c.loop-block.invariant.bound)));
-      total = rw c.block_sum-total.ensures.exact (ap (λ (n : ℕ). n + sum (take 16 (drop (16 * b) c.args.sizes.now))) c.loop-block.invariant.total
+      total = rw c.block_sum.ensures.exact (ap (λ (n : ℕ). n + sum (take 16 (drop (16 * b) c.args.sizes.now))) c.loop-block.invariant.total
           ∙ sym (sum-more c.args.sizes.now (16 * b) 16) ∙ sym (ap (λ (n : ℕ). sum (take n c.args.sizes.now)) next));
-      bound = omega (arith, c.loop-block.invariant.bound, c.block_sum-total.ensures.bound);
+      bound = omega (arith, c.loop-block.invariant.bound, c.block_sum.ensures.bound);
     }

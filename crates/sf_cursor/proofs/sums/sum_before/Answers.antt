@@ -10,4 +10,4 @@ returns c =
     let rest : 16 * b + (c.args.i - 16 * b) ≡ c.args.i = omega arith in
     let all : sum (take c.args.i sizes) ≡ sum (take (16 * b) sizes) + sum (take (c.args.i - 16 * b) (drop (16 * b) sizes)) =
     sym (ap (λ (n : ℕ). sum (take n sizes)) rest) ∙ sum-more sizes (16 * b) (c.args.i - 16 * b) in
-    ap (λ (n : ℕ). n + c.sum_of.result) at ∙ ap (λ (n : ℕ). sum (take (16 * b) sizes) + n) c.sum_of.ensures.exact ∙ sym all
+    ap (λ (n : ℕ). n + c.sum.result) at ∙ ap (λ (n : ℕ). sum (take (16 * b) sizes) + n) c.sum.ensures.exact ∙ sym all

@@ -18,13 +18,13 @@ pub chunk_of-earlier-requires-clause-reach : goal.chunk_of-earlier-requires-clau
 chunk_of-earlier-requires-clause-reach c =
     let t = c.self.inside.tables in
     let lt : c.args.i < length (sizes_view t.sizes) = subst (λ (x : Tables). c.args.i < length x.sizes) (sym c.self.view_is) c.requires.there in
-    rw (c.as_slice.ensures, c.as_slice-3.ensures) (chunks_reach t c.self.invariant.sound c.args.i lt)
+    rw c.as_slice.ensures (chunks_reach t c.self.invariant.sound c.args.i lt)
 
 pub decode_at-decode-requires-clause-reach : goal.decode_at-decode-requires-clause-reach
 decode_at-decode-requires-clause-reach c =
     let t = c.self.inside.tables in
     let lt : c.args.i < length (sizes_view t.sizes) = subst (λ (x : Tables). c.args.i < length x.sizes) (sym c.self.view_is) c.requires.there in
-    rw c.as_slice-4.ensures (times_reach t c.self.invariant.sound c.args.i lt)
+    rw c.as_slice-3.ensures (times_reach t c.self.invariant.sound c.args.i lt)
 
 pub place_at-requires-clause-fits : goal.place_at-requires-clause-fits
 place_at-requires-clause-fits c =
@@ -35,8 +35,7 @@ place_at-requires-clause-fits c =
     let chunk : ChunkAt = c.chunk_of-earlier.result.0 in
     let earlier : ℕ = c.chunk_of-earlier.result.1 in
     let is : IsInChunk t.spreads t.places c.args.i earlier chunk =
-    subst (λ (rs : List ChunkRun). IsInChunk rs t.places c.args.i earlier chunk) c.as_slice.ensures
-    (subst (λ (ps : List ℕ). IsInChunk c.as_slice.result.now ps c.args.i earlier chunk) c.as_slice-3.ensures c.chunk_of-earlier.ensures.chunk) in
+    subst (λ (rs : List ChunkRun). IsInChunk rs t.places c.args.i earlier chunk) c.as_slice.ensures c.chunk_of-earlier.ensures.chunk in
     place_fits law t c.self.invariant.sound c.args.i earlier chunk is lt has
 
 pub returns-clause-listed : goal.returns-clause-listed
@@ -47,11 +46,10 @@ returns-clause-listed c =
     let chunk : ChunkAt = c.chunk_of-earlier.result.0 in
     let earlier : ℕ = c.chunk_of-earlier.result.1 in
     let is : IsInChunk t.spreads t.places c.args.i earlier chunk =
-    subst (λ (rs : List ChunkRun). IsInChunk rs t.places c.args.i earlier chunk) c.as_slice.ensures
-    (subst (λ (ps : List ℕ). IsInChunk c.as_slice.result.now ps c.args.i earlier chunk) c.as_slice-3.ensures c.chunk_of-earlier.ensures.chunk) in
+    subst (λ (rs : List ChunkRun). IsInChunk rs t.places c.args.i earlier chunk) c.as_slice.ensures c.chunk_of-earlier.ensures.chunk in
     let fits : SFits w64 c.offset_at-offset.result = search rules in
     let shown : SFits w64 c.compose_at.result = search rules in
-    let offset : c.offset_at-offset.result ≡ get_or (tables_view t).offsets c.args.i (pos 0) = rw c.as_slice-7.ensures at c.offset_at-offset.ensures.exact in
+    let offset : c.offset_at-offset.result ≡ get_or (tables_view t).offsets c.args.i (pos 0) = rw c.as_slice-6.ensures at c.offset_at-offset.ensures.exact in
     let compose : to_z w64 (of_z w64 c.compose_at.result) ≡ pos c.decode_at-decode.result +ℤ get_or (tables_view t).offsets c.args.i (pos 0) =
     to_z-of_z w64 c.compose_at.result shown ∙ c.compose_at.ensures
     ∙ ap (λ (z : ℤ). pos c.decode_at-decode.result +ℤ z) (to_z-of_z w64 c.offset_at-offset.result fits ∙ offset) in
@@ -64,7 +62,7 @@ returns-clause-listed c =
       description = chunk.description;
     } in
     let whole = put_together law t c.self.invariant.sound c.args.i earlier chunk is lt a
-    (rw c.as_slice-4.ensures at c.decode_at-decode.ensures.exact)
+    (rw c.as_slice-3.ensures at c.decode_at-decode.ensures.exact)
     compose
     c.is_sync.ensures
     c.place_at.ensures

@@ -1,0 +1,160 @@
+//! Large tables of each kind, and entries that stand past what they tell of.
+
+use super::*;
+
+/// So many samples.
+const COUNT: u32 = 3000;
+
+/// A count, and so many entries of these bytes.
+fn alike(alloc: Global, entry: &[u8]) -> Result<Bytes, AllocError> {
+    let mut table = Bytes::from_slice(alloc, &COUNT.to_be_bytes())?;
+    for _ in 0..COUNT {
+        table.append(entry)?;
+    }
+    Ok(table)
+}
+
+/// The bytes of the first fields, and then half as many times those of two.
+fn pairs(alloc: Global, front: &[u8], two: &[u8]) -> Result<Bytes, AllocError> {
+    let mut table = Bytes::from_slice(alloc, front)?;
+    table.append(&COUNT.to_be_bytes())?;
+    for _ in 0..COUNT / 2 {
+        table.append(two)?;
+    }
+    Ok(table)
+}
+
+/// An entry for each chunk, which has one sample. Their descriptions are 1 and 2 in turn.
+fn one_in_each(alloc: Global) -> Result<Bytes, AllocError> {
+    let mut table = Bytes::from_slice(alloc, &COUNT.to_be_bytes())?;
+    for k in 0..COUNT {
+        table.append(&(k + 1).to_be_bytes())?;
+        table.append(b"\0\0\0\x01")?;
+        table.append(&(k % 2 + 1).to_be_bytes())?;
+    }
+    Ok(table)
+}
+
+/// A number for each entry, so far apart from a first one on.
+fn apart(alloc: Global, first: u32, by: u32) -> Result<Bytes, AllocError> {
+    let mut table = Bytes::from_slice(alloc, &COUNT.to_be_bytes())?;
+    let mut number = first;
+    for _ in 0..COUNT {
+        table.append(&number.to_be_bytes())?;
+        number = number.saturating_add(by);
+    }
+    Ok(table)
+}
+
+#[test]
+fn each_table_may_have_an_entry_for_each_sample(rt: HostRuntime) -> Result<(), Fail> {
+    // Deltas of 2, offsets of 5, sizes 1 and 7 in turn, chunks 16 apart from 1000 on, and the samples of odd numbers are sync.
+    let alloc = rt.alloc();
+    let times = alike(alloc, b"\0\0\0\x01\0\0\0\x02")?;
+    let offsets = alike(alloc, b"\0\0\0\x01\0\0\0\x05")?;
+    let sizes = pairs(alloc, b"\0\0\0\0", b"\0\0\0\x01\0\0\0\x07")?;
+    let spread = one_in_each(alloc)?;
+    let places = apart(alloc, 1000, 16)?;
+    let numbers = apart(alloc, 1, 2)?;
+    let tables = [
+        (STTS, FIELDS, times.as_slice()),
+        (CTTS, FIELDS, offsets.as_slice()),
+        (STSS, FIELDS, numbers.as_slice()),
+        (STSZ, FIELDS, sizes.as_slice()),
+        (STSC, FIELDS, spread.as_slice()),
+        (STCO, FIELDS, places.as_slice()),
+    ];
+    let last = PlainSample {
+        sync: false,
+        description: 2,
+        ..sync(5998, 6003, 48_984, 7)
+    };
+    let wanted = [
+        (0, sync(0, 5, 1000, 1)),
+        (2998, sync(5996, 6001, 48_968, 1)),
+        (2999, last),
+    ];
+    let cursor = cursor_of(rt, &tables)?;
+    assert_eq!(rt; cursor.count(), 3000);
+    assert!(rt; finds(&cursor, 48_991, &wanted));
+    assert_eq!(rt; cursor.held(7, 48_990), outside(2999));
+    Ok(())
+}
+
+/// A cursor over 3000 samples with these sizes, in one chunk at 100.
+fn of_sizes(rt: HostRuntime, kind: FourCc, sizes: &[u8]) -> Result<Cursor, Fail> {
+    let tables = [
+        (STTS, FIELDS, b"\0\0\0\x01\0\0\x0b\xb8\0\0\0\x02".as_slice()),
+        (kind, FIELDS, sizes),
+        (
+            STSC,
+            FIELDS,
+            b"\0\0\0\x01\0\0\0\x01\0\0\x0b\xb8\0\0\0\x01".as_slice(),
+        ),
+        (STCO, FIELDS, b"\0\0\0\x01\0\0\0\x64".as_slice()),
+    ];
+    cursor_of(rt, &tables)
+}
+
+/// Whether these sizes give this last sample, in a file that ends where it does, and not in one that ends before.
+fn gives_last(
+    rt: HostRuntime,
+    kind: FourCc,
+    sizes: &[u8],
+    last: PlainSample,
+    end: u64,
+) -> Result<bool, Fail> {
+    let cursor = of_sizes(rt, kind, sizes)?;
+    let outside = cursor.held(7, end.saturating_sub(1)) == outside(2999);
+    Ok(outside && finds(&cursor, end, &[(2999, last)]))
+}
+
+#[test]
+fn sizes_of_few_bits_are_summed_up(rt: HostRuntime) -> Result<(), Fail> {
+    // 1 and 2 in turn: before the last one stand 1500 of 1 and 1499 of 2.
+    let kind = FourCc(*b"stz2");
+    let last = sync(5998, 5998, 4598, 2);
+    let four = pairs(rt.alloc(), b"\0\0\0\x04", b"\x12")?;
+    assert!(rt; gives_last(rt, kind, four.as_slice(), last, 4600)?);
+    let eight = pairs(rt.alloc(), b"\0\0\0\x08", b"\x01\x02")?;
+    assert!(rt; gives_last(rt, kind, eight.as_slice(), last, 4600)?);
+    Ok(())
+}
+
+#[test]
+fn sizes_of_many_bits_are_summed_up(rt: HostRuntime) -> Result<(), Fail> {
+    // 257 and 258 in turn.
+    let last = sync(5998, 5998, 772_342, 258);
+    let sixteen = pairs(rt.alloc(), b"\0\0\0\x10", b"\x01\x01\x01\x02")?;
+    assert!(rt; gives_last(rt, FourCc(*b"stz2"), sixteen.as_slice(), last, 772_600)?);
+    let each = pairs(rt.alloc(), b"\0\0\0\0", b"\0\0\x01\x01\0\0\x01\x02")?;
+    assert!(rt; gives_last(rt, STSZ, each.as_slice(), last, 772_600)?);
+    Ok(())
+}
+
+/// Tables of three samples. Chunk 1 has none, each from chunk 2 on the most, and from chunk 4,294,967,295 on an entry holds
+/// that isn't there, as in chunk 1.
+fn with_far_entries<'a>(places: &'a [u8]) -> [(FourCc, &'a [u8], &'a [u8]); 4] {
+    let spread = b"\0\0\0\x03\0\0\0\x01\0\0\0\0\0\0\0\x09\0\0\0\x02\xff\xff\xff\xff\0\0\0\x01\
+        \xff\xff\xff\xff\xff\xff\xff\xff\0\0\0\x09";
+    [
+        (STTS, FIELDS, TIMES),
+        (STSZ, FIELDS, SIZES),
+        (STSC, FIELDS, spread.as_slice()),
+        (STCO, FIELDS, places),
+    ]
+}
+
+#[test]
+fn entries_past_the_last_chunk_hold_no_samples(rt: HostRuntime) -> Result<(), Fail> {
+    let wanted = [(0, sync(0, 0, 200, 10)), (2, sync(2048, 2048, 230, 30))];
+    let cursor = cursor_of(rt, &with_far_entries(PLACES))?;
+    assert!(rt; finds(&cursor, 260, &wanted));
+    let one_chunk = with_far_entries(b"\0\0\0\x01\0\0\0\x64");
+    let short = TableFault::Short {
+        kind: STSC,
+        at: 1056,
+    };
+    assert_eq!(rt; read(rt.alloc(), &one_chunk)?.err(), Some(short));
+    Ok(())
+}
