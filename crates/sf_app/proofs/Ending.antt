@@ -67,5 +67,11 @@ ends_early (Err fault) status b a (inr x) inputs shelf says =
 ends_early (Ok (Record asked)) status b a (inl e) inputs shelf says = record_none asked status b a e inputs shelf says
 ends_early (Ok (Extract asked)) status b a (inl e) inputs shelf says = ends_unread asked (plans_from 0 asked.plans) status b a (inl e) inputs shelf says
 ends_early (Ok (Listing name)) status b a (inl e) inputs shelf says = (list_none name status b a e inputs says, shelf)
-ends_early (Ok (Make asked)) status b a (inl e) inputs shelf says = record { answer = inr e; inputs = inputs; shelf = shelf; says = says }
+ends_early (Ok (Make asked)) status b a (inl e) inputs shelf says =
+    record {
+      ends = inr (record { answer = e; says = subst (λ (z : Status). Says (line_of z) b.text a.text) e says });
+      inputs = inputs;
+      shelf = shelf;
+      complete = λ put. inl e;
+    }
 ends_early (Ok command) status b a (inr x) inputs shelf says = absurd (let told = x.1 in let wrong : ⊥ = cc in wrong)

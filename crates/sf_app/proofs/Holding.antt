@@ -15,7 +15,7 @@ use Rattle.sf_meaning.specs.Rows.{held_as}
 use Rattle.sf_series.specs.declared.report.Report.{Report}
 use Rattle.sf_world.specs.Views.{InputsView, ShelfView, SourceView}
 use Rattle.sf_record.specs.Input.{given_of}
-use Rattle.sf_record.specs.Said.{Said, said_in}
+use Rattle.sf_record.specs.Said.{IsHeld, Said, said_in}
 use Rattle.sf_record.specs.Serial.{AllRead, SaysIn, WasRead, answer_by, filled, lists_of, lowest_fault}
 use Rattle.sf_record.specs.declared.faults.InputFault.{InputFault}
 use Rattle.sf_record.specs.declared.faults.InputFault.TheVariants.{Coded, Setup as SetupRefused, Sample as SampleRefused}
@@ -23,7 +23,7 @@ use Rattle.sf_record.specs.declared.faults.TrackFault.{TrackFault}
 use Rattle.sf_record.specs.declared.serial_end.SerialOutcome.TheVariants as outcomes
 use Rattle.sf_words.specs.declared.command.RecordAsked.{RecordAsked}
 use Rattle.sf_app.specs.Lending.{AreGiven}
-use Rattle.sf_app.specs.RecordEnds.{HoldsInputs, IsHeld, Performs, Records, options_of}
+use Rattle.sf_app.specs.RecordEnds.{HoldsInputs, Performs, Records, options_of}
 use Rattle.sf_app.specs.declared.status.Status.{Status}
 use Rattle.sf_app.specs.declared.status.Status.TheVariants as statuses
 use Rattle.sf_app.proofs.Recording.{source_at}

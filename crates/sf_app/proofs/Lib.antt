@@ -1,6 +1,6 @@
 pub mod Gathering
 pub mod Fetching
-pub mod Ranges
+pub mod Making
 pub mod Ending
 pub mod Holding
 pub mod Performing

@@ -9,4 +9,5 @@ pub mod RecordEnds
 pub mod Plans
 pub mod ExtractEnds
 pub mod ListEnds
+pub mod MakeEnds
 pub mod Ends

@@ -2,13 +2,11 @@
 use Rattle.std.specs.Prelude.{◌≡◌, ℕ, ◌⊎◌, List, [], ◌++◌, map, slice_get, Some, None, Result, Ok, Err}
 use Rattle.sf_world.specs.Counts.{Rose}
 use Rattle.sf_world.specs.Views.{InputsView, Says, ShelfView, SourceView}
-use Rattle.sf_meaning.specs.Joined.{joined}
-use Rattle.sf_meaning.specs.Rows.{held_as}
 use Rattle.sf_gather.specs.declared.given.Options.{Options}
 use Rattle.sf_series.specs.declared.limits.Limits.{Limits}
 use Rattle.sf_series.specs.declared.report.Report.{Report}
 use Rattle.sf_record.specs.Called.{called_for}
-use Rattle.sf_record.specs.Said.{Said, said_in}
+use Rattle.sf_record.specs.Said.{IsHeld, said_in}
 use Rattle.sf_record.specs.Serial.{KeepsMade, SerialEnds, asked_for, gave}
 use Rattle.sf_record.specs.declared.serial_end.SerialOutcome.{SerialOutcome}
 use Rattle.sf_record.specs.declared.serial_end.SerialOutcome.TheVariants as outcomes
@@ -82,11 +80,6 @@ status_of (outcomes.Limit limit) = LimitReached limit
 status_of (outcomes.Refused track fault) = InputRefused track fault
 status_of (outcomes.ReadFault input) = ReadFault input
 status_of outcomes.NoMemory = NoMemory
-
--- An input is whole, and its samples are just those that files hold of a track, joined in their order.
-pub record IsHeld (track : ℕ) (said : Said) (files : List (List ℕ)) : Type 0 where
-  pub whole : said.fault ≡ None
-  pub held : joined files track ≡ Some (map held_as said.samples)
 
 -- A shelf that had these files gained more, which hold just the samples of the inputs, each as a track, where its bytes are told.
 pub record HoldsInputs (asked : RecordAsked) (inputs : InputsView) (before : List (List ℕ)) (shelf : ShelfView) : Type 0 where

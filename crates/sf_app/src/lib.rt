@@ -2,13 +2,15 @@
 //!
 //! A command is a file with four steps: fetch the inputs that its words name, call the crate that does the work, give the
 //! inputs back, and tell how it went. `record` makes files of coded sample files, `extract` reads plans out of a movie into
-//! dumps, and `list` puts the samples of a movie into the text. Each answer other than `Done` has its cause in the clauses of `run`.
+//! dumps, `list` puts the samples of a movie into the text, and `make` has `sf_selftest` make one in memory. Each answer other than
+//! `Done` has its cause in the clauses of `run`. The tests of `run` stand in `sf_trials`.
 #![tactic(auto)]
 
 mod answer_text;
 mod extract;
 mod list;
 mod list_text;
+mod make;
 mod movie;
 mod program;
 mod record;

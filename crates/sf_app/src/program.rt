@@ -10,6 +10,7 @@ ghost use Rattle.sf_words.specs.declared.faults.UsageFault.{UsageFault as WordFa
 use super::answer_text::put_answer;
 use super::extract::run_extract;
 use super::list::run_list;
+use super::make::run_make;
 use super::record::run_record;
 use super::{Status, UsageFault};
 use sf_words::{Command, WordsFault, read_words};
@@ -27,11 +28,12 @@ fn refused(fault: WordsFault) -> Status
     }
 }
 
-/// Does what the words say: `record INPUT..` makes files of the samples of 1 to 16 inputs, each as a track, from `out-1.mp4` on,
-/// `extract MOVIE PLAN..` reads 1 to 16 plans out of a movie, each into a dump `out-1.dump` and so on, and `list MOVIE` puts the
-/// list of a movie's samples into the text. Options say when a recording starts, how its chunks and files are cut, and how
-/// the names begin. The text says how it went. Each source is given back, and each file that was made is kept.
-#[tactic(auto, using(crate::proofs::Ranges::is_takable, crate::proofs::Ending::ends_early, crate::proofs::Ending::gave_none, crate::proofs::Extracting::says_by))]
+/// Does what the words say. `record INPUT..` makes files of the samples of 1 to 16 inputs, each as a track, from `out-1.mp4` on;
+/// `extract MOVIE PLAN..` reads 1 to 16 plans out of a movie, each into a dump, `out-1.dump` and so on; `list MOVIE` puts the list
+/// of a movie's samples into the text; and `make COUNT TRACKS` makes a movie in memory and tells what it reads back of it. Options
+/// say when a recording starts, how its chunks and files are cut, and how the names begin. The text says how it went. Each source
+/// is given back, and each file that was made is kept.
+#[tactic(auto, using(crate::proofs::Ending::ends_early, crate::proofs::Ending::gave_none, crate::proofs::Extracting::says_by))]
 pub fn run<I: Inputs, O: Shelf, T: Sink>(
     alloc: Global,
     words: &[String],
@@ -50,7 +52,7 @@ pub fn run<I: Inputs, O: Shelf, T: Sink>(
         Ok(Command::Record(asked)) => return run_record(alloc, inputs, &asked, shelf, text),
         Ok(Command::Extract(asked)) => return run_extract(alloc, inputs, &asked, shelf, text),
         Ok(Command::List(name)) => return run_list(alloc, inputs, name.as_str(), text),
-        Ok(Command::Make(_)) => Status::Usage(UsageFault::Command),
+        Ok(Command::Make(asked)) => return run_make(alloc, &asked, text),
         Err(fault) => refused(fault),
     };
     let _put = put_answer(alloc, text, &status);

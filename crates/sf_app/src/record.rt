@@ -4,11 +4,11 @@ ghost use Rattle.std.specs.Prelude.{◌≡◌, ◌≢◌, ℕ, ◌≤◌, List, 
 ghost use Rattle.sf_app.specs.AnswerText.{Answered, TellsDone, done_lines};
 ghost use Rattle.sf_app.specs.Outside.{KeepInputs, outside_of};
 ghost use Rattle.sf_app.specs.RecordEnds.{AreHeld, HoldsInputs, Performs, RecordEnds, answered, limits_of, options_of, status_of};
-ghost use Rattle.sf_app.specs.inner.Asked.{IsInRange};
 ghost use Rattle.sf_app.specs.inner.Fetching.{Fetched, TakesAllBack, Unfetched, unfetched};
 ghost use Rattle.sf_record.specs.Called.{called_for};
 ghost use Rattle.sf_record.specs.Said.{said_in};
 ghost use Rattle.sf_series.specs.Series.{AreLimits};
+ghost use Rattle.sf_words.specs.Ranges.{IsRecordable};
 ghost use Rattle.sf_world.specs.Counts.{Rose};
 
 use super::Status;
@@ -23,7 +23,7 @@ use std::alloc::{AllocError, Global};
 
 // The limits of the files of a recording.
 fn limits_of(alloc: Global, asked: &RecordAsked) -> Result<Limits, AllocError>
-    requires { IsInRange asked.now }
+    requires { IsRecordable asked.now }
     ensures limits { IfOk result (λ limits. limits ≡ limits_of asked.now) }
     ensures within { IfOk result AreLimits }
 {
@@ -103,7 +103,7 @@ fn record_inputs<I: Inputs, O: Shelf>(
     asked: &RecordAsked,
     shelf: &mut O,
 ) -> Result<Report, Status>
-    requires { IsInRange asked.now }
+    requires { IsRecordable asked.now }
     ensures performs { Performs asked.now result (I.seen inputs.old) (I.seen inputs.new) (O.seen shelf.old) (O.seen shelf.new) }
     ensures inputs { KeepInputs (I.seen inputs.old) (I.seen inputs.new) }
     ensures done { IfOk result (λ report. (before : List (List ℕ)) → (O.seen shelf.old).files ≡ Some before → HoldsInputs asked.now (I.seen inputs.old) before (O.seen shelf.new)) }
@@ -142,7 +142,7 @@ pub(crate) fn run_record<I: Inputs, O: Shelf, T: Sink>(
     shelf: &mut O,
     text: &mut T,
 ) -> Status
-    requires { IsInRange asked.now }
+    requires { IsRecordable asked.now }
     ensures { RecordEnds asked.now result (outside_of (I.seen inputs.old) (O.seen shelf.old) (T.seen text.old))
         (outside_of (I.seen inputs.new) (O.seen shelf.new) (T.seen text.new)) }
 {

@@ -1,93 +1,105 @@
-//! Recordings through `run`, over objects in memory.
+//! The codes and the lines of answers.
 
 use super::*;
-use sf_list::{Bytes, Text};
-use sf_world::{MemInputs, MemShelf, MemText};
-use std::alloc::{AllocError, Global};
+use crate::answer_text::put_answer;
+use sf_world::MemText;
+use std::test::Fail;
 
-mod extracting;
-mod failures;
-mod inputs;
-mod listing;
-mod movies;
-mod options;
-mod refusals;
-mod several;
-mod sizes;
-mod tables;
-mod texts;
-mod video;
-mod words;
-
-/// A coded sample file of 103 bytes: its header, three samples of four bytes at 0, 21333 and 42667
-/// microseconds, whose records stand at 24, 50 and 76, and the end at 102.
-const INPUT: [u8; 103] = *b"SFCS\0\x01\0\x02\0\0\0\0\0\0\0\0\0\x02\0\0\0\x02\x11\x90\
-    \x01\x01\0\0\0\0\0\0\0\0\0\0\0\0\0\0\0\0\0\0\0\x04\x21\x10\x04\x60\
-    \x01\x01\0\0\0\0\0\0\x53\x55\0\0\0\0\0\0\x53\x55\0\0\0\x04\x21\x10\x04\x60\
-    \x01\x01\0\0\0\0\0\0\xa6\xab\0\0\0\0\0\0\xa6\xab\0\0\0\x04\x21\x10\x04\x60\
-    \0";
-
-/// How a run ended, and what it left.
-#[derive(Drop)]
-struct Ended {
-    status: Status,
-    shelf: MemShelf,
-    text: MemText,
-}
-
-fn words_of(alloc: Global, words: &[&str]) -> Result<Vec<String>, AllocError> {
-    let mut all = Vec::new(alloc);
-    for word in words {
-        all.push(String::from_str(alloc, word)?)?;
-    }
-    Ok(all)
-}
-
-/// Inputs that hold one, of the name `a`, whose reads with the failing numbers fail.
-fn inputs_of(alloc: Global, input: &[u8], failing: Vec<u64>) -> Result<MemInputs, AllocError> {
-    let mut named = Vec::new(alloc);
-    named.push((
-        Text::from_str(alloc, "a")?,
-        Bytes::from_slice(alloc, input)?,
-    ))?;
-    Ok(MemInputs::new(alloc, named, failing))
-}
-
-/// Runs the words where one input is there, of the name `a`.
-fn run_words(alloc: Global, words: &[&str], input: &[u8]) -> Result<Ended, AllocError> {
-    let words = words_of(alloc, words)?;
-    let mut inputs = inputs_of(alloc, input, Vec::new(alloc))?;
-    let mut shelf = MemShelf::new(alloc, Vec::new(alloc));
-    let mut text = MemText::new(alloc);
-    let status = run(alloc, &words, &mut inputs, &mut shelf, &mut text);
-    Ok(Ended {
-        status,
-        shelf,
-        text,
-    })
-}
-
-/// The sizes of the files on a shelf, of which there is one at most.
-fn only_size(shelf: &MemShelf) -> Option<usize> {
-    let size = shelf.file(0)?.len();
-    match shelf.file(1) {
-        None => Some(size),
-        Some(_) => None,
+#[test]
+fn each_answer_has_its_code(rt: HostRuntime) {
+    let fault = TrackFault {
+        why: InputFault::Coded(CodedFault::Magic),
+        place: 0,
+    };
+    let limit = LimitShown::Count {
+        track: 0,
+        sample: 0,
+        would_be: 1,
+        max: 0,
+    };
+    let refused = Status::SampleRefused {
+        reader: 0,
+        track: 0,
+        sample: 0,
+        at: 0,
+    };
+    let missing = Status::PlanRefused {
+        reader: 0,
+        command: 0,
+    };
+    let codes = [
+        (Status::Done, 0),
+        (Status::Usage(UsageFault::Words), 2),
+        (Status::OpenFault { input: 0 }, 3),
+        (Status::ReadFault { input: 0 }, 4),
+        (Status::WriteFault, 5),
+        (Status::InputRefused { track: 0, fault }, 6),
+        (Status::MovieRefused(MovieFault::NoMoov { at: 0 }), 7),
+        (refused, 7),
+        (Status::LimitReached(limit), 8),
+        (missing, 9),
+        (Status::NoMemory, 10),
+    ];
+    for (status, code) in codes {
+        assert_eq!(rt; status.code(), code);
     }
 }
 
-/// A coded sample file of samples at these times (in microseconds) and with so many bytes.
-fn input_of(alloc: Global, samples: &[(u64, u32)]) -> Result<Vec<u8>, AllocError> {
-    let mut input = Vec::new(alloc);
-    input.extend_from_slice(&INPUT[..24])?;
-    for (us, size) in samples {
-        input.extend_from_slice(&[1, 1])?;
-        input.extend_from_slice(&us.to_be_bytes())?;
-        input.extend_from_slice(&us.to_be_bytes())?;
-        input.extend_from_slice(&size.to_be_bytes())?;
-        let payload = vec![in alloc; 7u8; *size as usize]?;
-        input.extend_from_slice(&payload)?;
+#[test]
+fn each_limit_has_its_line(rt: HostRuntime) -> Result<(), Fail> {
+    let alloc = rt.alloc();
+    let movie = LimitShown::Movie {
+        track: 0,
+        sample: 5_000_000,
+        would_be: 268_435_460,
+        max: 268_435_456,
+    };
+    let count = LimitShown::Count {
+        track: 0,
+        sample: 16_777_215,
+        would_be: 16_777_217,
+        max: 16_777_216,
+    };
+    let nothing = LimitShown::Nothing {
+        would_be: 604,
+        max: 603,
+    };
+    let size = LimitShown::Size {
+        track: 1,
+        sample: 2,
+        would_be: 648,
+        max: 647,
+    };
+    let duration = LimitShown::Duration {
+        track: 15,
+        sample: 7,
+        at_us: 3_000_000,
+        file_start_us: 1_000_000,
+        max_us: 1_500_000,
+    };
+    let rows: [(LimitShown, &[u8]); 5] = [
+        (nothing, b"limit reached: nothing 604 603\n"),
+        (size, b"limit reached: size 1 2 648 647\n"),
+        (
+            duration,
+            b"limit reached: duration 15 7 3000000 1000000 1500000\n",
+        ),
+        (
+            movie,
+            b"limit reached: movie 0 5000000 268435460 268435456\n",
+        ),
+        (
+            count,
+            b"limit reached: count 0 16777215 16777217 16777216\n",
+        ),
+    ];
+    for (limit, line) in rows {
+        let mut text = MemText::new(alloc);
+        assert_eq!(rt;
+            put_answer(alloc, &mut text, &Status::LimitReached(limit)),
+            Ok(())
+        );
+        assert_eq!(rt; text.bytes(), line);
     }
-    input.push(0)?;
-    Ok(input)
+    Ok(())
 }

@@ -6,3 +6,4 @@ pub mod Walking
 pub mod Parsed
 pub mod Numbers
 pub mod Asking
+mod Ranges

@@ -1,7 +1,8 @@
 //! Words, read as a command.
 
-ghost use Rattle.std.specs.Prelude.{◌≡◌, [], None, map, string_bytes};
+ghost use Rattle.std.specs.Prelude.{◌≡◌, [], None, map, string_bytes, IfOk};
 ghost use Rattle.sf_words.specs.Commands.{IsRead, asked, command, extract_asked, extract_options, list_asked, make_asked, make_options, record_asked, record_options};
+ghost use Rattle.sf_words.specs.Ranges.{IsInRange};
 ghost use Rattle.sf_words.specs.Reading.{read};
 
 use super::grammar::parse;
@@ -64,10 +65,9 @@ fn read_make(alloc: Global, words: &[String]) -> Result<Command, WordsFault>
     }
 }
 
-/// What the words of a command line ask for. `NoMemory` comes only for want of memory, and the words are refused exactly as
-/// `specs/Commands.antt` says.
+// What words ask for.
 #[tactic(auto, unfolding(crate::specs::Commands::command))]
-pub fn read_words(alloc: Global, words: &[String]) -> Result<Command, WordsFault>
+fn read_command(alloc: Global, words: &[String]) -> Result<Command, WordsFault>
     ensures { IsRead (command (map string_bytes words.now)) result }
 {
     let [first, others @ ..] = words else {
@@ -86,4 +86,17 @@ pub fn read_words(alloc: Global, words: &[String]) -> Result<Command, WordsFault
         return read_make(alloc, others);
     }
     Err(WordsFault::Usage(UsageFault::Command))
+}
+
+/// What the words of a command line ask for. `NoMemory` comes only for want of memory, and the words are refused exactly as
+/// `specs/Commands.antt` says.
+#[tactic(auto, using(crate::proofs::Ranges::read_in_range))]
+pub fn read_words(alloc: Global, words: &[String]) -> Result<Command, WordsFault>
+    // What the words ask for, or what is wrong with them.
+    ensures read { IsRead (command (map string_bytes words.now)) result }
+
+    // What is asked is within its ranges.
+    ensures range { IfOk result IsInRange }
+{
+    read_command(alloc, words)
 }

@@ -1,10 +1,10 @@
--- What words ask of a recording and of an extraction is within its ranges.
-use Rattle.std.proofs.Common.{◌≡◌, ℕ, ◌≤◌, ◌^◌, Bool, true, false, List, [], ◌∷◌, length, codes, Option, Some, None, Result, Ok, refl, subst, arith}
+-- What words ask is within its ranges.
+use Rattle.std.proofs.Common.{◌≡◌, ℕ, ◌≤◌, ◌^◌, Bool, true, false, List, [], ◌∷◌, length, codes, Option, Some, None, Result, Ok, Err, IfOk, refl, subst, arith}
 use Rattle.std.specs.Prelude.{◌&&◌, nat_le, if◌then◌else◌}
 use Rattle.std.specs.Str.{bytes_eq}
 use Rattle.std.proofs.lemmas.Bool.Decides.{nat_tests}
 use Rattle.std.proofs.lemmas.Option.{option_and_then_some, same_Some}
-use Rattle.sf_words.specs.Commands.{Values, asked, command, extract_asked, extract_numbers, only_word, two_words, list_asked, make_asked, movie_and_plans, or_usage, record_asked, record_numbers}
+use Rattle.sf_words.specs.Commands.{IsRead, Values, asked, command, extract_asked, extract_numbers, only_word, two_words, list_asked, make_asked, movie_and_plans, or_usage, record_asked, record_numbers}
 use Rattle.sf_words.specs.Reading.{Given, Word}
 use Rattle.sf_words.specs.Values.{number, said, text, threads, words_from}
 use Rattle.sf_words.specs.declared.command.Threads.TheVariants.{Threaded}
@@ -12,7 +12,8 @@ use Rattle.sf_words.specs.declared.command.Command.{Command}
 use Rattle.sf_words.specs.declared.command.Command.TheVariants.{Record, Extract, List as Listing, Make}
 use Rattle.sf_words.specs.declared.command.RecordNumbers.{RecordNumbers}
 use Rattle.sf_words.specs.declared.faults.UsageFault.{UsageFault}
-use Rattle.sf_app.specs.inner.Asked.{IsTakable}
+use Rattle.sf_words.specs.declared.faults.WordsFault.{WordsFault}
+use Rattle.sf_words.specs.Ranges.{AreInRange, IsInRange}
 
 -- ---- numbers and words
 
@@ -50,16 +51,7 @@ words_within least most words filled e =
 
 -- ---- each command
 
--- The numbers of a recording are within their ranges.
-record AreWithin (n : RecordNumbers) : Type 0 where
-  pub start : n.start_us ≤ 2 ^ 48
-  pub interleave : n.interleave_us ≤ 2 ^ 48
-  pub bytes : n.max_bytes ≤ 2 ^ 62
-  pub duration : n.max_duration_us ≤ 2 ^ 48
-  pub some : 1 ≤ n.max_files
-  pub few : n.max_files ≤ 99999
-
-numbers_within : (values : Values) (n : RecordNumbers) → record_numbers values ≡ Some n → AreWithin n
+numbers_within : (values : Values) (n : RecordNumbers) → record_numbers values ≡ Some n → AreInRange n
 unfolding record_numbers
 numbers_within values n e =
     option_and_then_some _ _ n e (λ start is_start e1.
@@ -69,7 +61,7 @@ numbers_within values n e =
     option_and_then_some _ _ n e4 (λ files is_files e5.
     let few = said_within 1 99999 1 (values (codes "max-files")) files (omega arith) (omega arith) is_files in
     let is : record { start_us = start; interleave_us = interleave; max_bytes = bytes; max_duration_us = duration; max_files = files } ≡ n = cc in
-    subst AreWithin is (record {
+    subst AreInRange is (record {
       start = (said_within 0 (2 ^ 48) 0 (values (codes "start-us")) start (omega arith) (omega arith) is_start).1;
       interleave = (said_within 0 (2 ^ 48) 1000000 (values (codes "interleave-us")) interleave (omega arith) (omega arith) is_interleave).1;
       bytes = (said_within 0 (2 ^ 62) 0 (values (codes "max-bytes")) bytes (omega arith) (omega arith) is_bytes).1;
@@ -78,7 +70,7 @@ numbers_within values n e =
       few = few.1;
     }))))))
 
-record_within : (words : List Word) (values : Values) (c : Command) → record_asked words values ≡ Some c → IsTakable c
+record_within : (words : List Word) (values : Values) (c : Command) → record_asked words values ≡ Some c → IsInRange c
 unfolding record_asked
 record_within words values c e =
     option_and_then_some _ (record_numbers values) c e (λ numbers are e1.
@@ -88,11 +80,10 @@ record_within words values c e =
     let n = numbers_within values numbers are in
     let count = words_within 1 16 words inputs is_inputs in
     let is : Record (record { inputs = inputs; numbers = numbers; threads = way; out = out }) ≡ c = same_Some _ _ e4 in
-    subst IsTakable is (record {
+    subst IsInRange is (record {
       some = count.0;
       few = count.1;
-      options = record { start = n.start; interleave = n.interleave };
-      limits = record { bytes = n.bytes; duration = n.duration; some = n.some; few = n.few };
+      numbers = n;
     })))))
 
 plans_within : (filled : List Word) (named : Word × List Word) → movie_and_plans filled ≡ Some named → 2 ≤ length filled → length filled ≤ 17 → (1 ≤ length named.1) × (length named.1 ≤ 16)
@@ -101,7 +92,7 @@ plans_within (movie ∷ plans) named e some few =
     let is : (movie, plans) ≡ named = cc in
     subst (λ (x : Word × List Word). (1 ≤ length x.1) × (length x.1 ≤ 16)) is (omega (arith, some), omega (arith, few))
 
-extract_within : (words : List Word) (values : Values) (c : Command) → extract_asked words values ≡ Some c → IsTakable c
+extract_within : (words : List Word) (values : Values) (c : Command) → extract_asked words values ≡ Some c → IsInRange c
 unfolding extract_asked
 extract_within words values c e =
     option_and_then_some _ (extract_numbers values) c e (λ numbers are e1.
@@ -111,17 +102,17 @@ extract_within words values c e =
     option_and_then_some _ (movie_and_plans filled) c e4 (λ named is_named e5.
     let count = words_within 2 17 words filled is_filled in
     let is : Extract (record { movie = named.0; plans = named.1; numbers = numbers; threads = way; out = out }) ≡ c = same_Some _ _ e5 in
-    subst IsTakable is (plans_within filled named is_named count.0 count.1))))))
+    subst IsInRange is (plans_within filled named is_named count.0 count.1))))))
 
-list_within : (words : List Word) (values : Values) (c : Command) → list_asked words ≡ Some c → IsTakable c
+list_within : (words : List Word) (values : Values) (c : Command) → list_asked words ≡ Some c → IsInRange c
 unfolding list_asked
 list_within words values c e =
     option_and_then_some _ (words_from 1 1 words) c e (λ filled is_filled e1.
     option_and_then_some _ (only_word filled) c e1 (λ movie is_movie e2.
     let is : Listing movie ≡ c = same_Some _ _ e2 in
-    subst IsTakable is tt))
+    subst IsInRange is tt))
 
-make_within : (words : List Word) (values : Values) (c : Command) → make_asked words values ≡ Some c → IsTakable c
+make_within : (words : List Word) (values : Values) (c : Command) → make_asked words values ≡ Some c → IsInRange c
 unfolding make_asked
 make_within words values c e =
     option_and_then_some _ (words_from 2 2 words) c e (λ filled is_filled e1.
@@ -129,30 +120,36 @@ make_within words values c e =
     option_and_then_some _ (number 0 200000 both.0) c e2 (λ count is_count e3.
     option_and_then_some _ (number 1 8 both.1) c e3 (λ tracks is_tracks e4.
     option_and_then_some _ (said Threaded threads (values (codes "threads"))) c e4 (λ way is_way e5.
+    let few = number_within 0 200000 both.0 count is_count in
+    let some = number_within 1 8 both.1 tracks is_tracks in
     let is : Make (record { count = count; tracks = tracks; threads = way }) ≡ c = same_Some _ _ e5 in
-    subst IsTakable is tt)))))
+    subst IsInRange is (record { samples = few.1; least = some.0; most = some.1 }))))))
 
 -- ---- all commands
 
-or_takable : (o : Option Command) (c : Command) → ((d : Command) → o ≡ Some d → IsTakable d) → or_usage o ≡ Ok c → IsTakable c
-or_takable None c law e = cc
-or_takable (Some d) c law e = let is : d ≡ c = cc in subst IsTakable is (law d refl)
+or_in_range : (o : Option Command) (c : Command) → ((d : Command) → o ≡ Some d → IsInRange d) → or_usage o ≡ Ok c → IsInRange c
+or_in_range None c law e = cc
+or_in_range (Some d) c law e = let is : d ≡ c = cc in subst IsInRange is (law d refl)
 
-asked_takable : (asks : List Word → Values → Option Command) (given : Option Given) (c : Command) → ((words : List Word) (values : Values) (d : Command) → asks words values ≡ Some d → IsTakable d)
-    → asked asks given ≡ Ok c → IsTakable c
-asked_takable asks None c law e = cc
-asked_takable asks (Some given) c law e = or_takable _ c (λ d is. law _ _ d is) e
+asked_in_range : (asks : List Word → Values → Option Command) (given : Option Given) (c : Command) → ((words : List Word) (values : Values) (d : Command) → asks words values ≡ Some d → IsInRange d)
+    → asked asks given ≡ Ok c → IsInRange c
+asked_in_range asks None c law e = cc
+asked_in_range asks (Some given) c law e = or_in_range _ c (λ d is. law _ _ d is) e
 
-if_takable : (b : Bool) (x y : Result Command UsageFault) (c : Command) → (x ≡ Ok c → IsTakable c) → (y ≡ Ok c → IsTakable c) → (if b then x else y) ≡ Ok c → IsTakable c
-if_takable true x y c f g e = f e
-if_takable false x y c f g e = g e
+if_in_range : (b : Bool) (x y : Result Command UsageFault) (c : Command) → (x ≡ Ok c → IsInRange c) → (y ≡ Ok c → IsInRange c) → (if b then x else y) ≡ Ok c → IsInRange c
+if_in_range true x y c f g e = f e
+if_in_range false x y c f g e = g e
 
--- what words ask for can be taken
-pub is_takable : (words : List Word) (c : Command) → command words ≡ Ok c → IsTakable c
+is_in_range : (words : List Word) (c : Command) → command words ≡ Ok c → IsInRange c
 unfolding command
-is_takable [] c e = cc
-is_takable (first ∷ words) c e =
-    if_takable (bytes_eq first (codes "record")) _ _ c (λ is. asked_takable record_asked _ c record_within is)
-    (λ is. if_takable (bytes_eq first (codes "extract")) _ _ c (λ is. asked_takable extract_asked _ c extract_within is)
-    (λ is. if_takable (bytes_eq first (codes "list")) _ _ c (λ is. asked_takable (λ given values. list_asked given) _ c list_within is)
-    (λ is. if_takable (bytes_eq first (codes "make")) _ _ c (λ is. asked_takable make_asked _ c make_within is) (λ is. cc) is) is) is) e
+is_in_range [] c e = cc
+is_in_range (first ∷ words) c e =
+    if_in_range (bytes_eq first (codes "record")) _ _ c (λ is. asked_in_range record_asked _ c record_within is)
+    (λ is. if_in_range (bytes_eq first (codes "extract")) _ _ c (λ is. asked_in_range extract_asked _ c extract_within is)
+    (λ is. if_in_range (bytes_eq first (codes "list")) _ _ c (λ is. asked_in_range (λ given values. list_asked given) _ c list_within is)
+    (λ is. if_in_range (bytes_eq first (codes "make")) _ _ c (λ is. asked_in_range make_asked _ c make_within is) (λ is. cc) is) is) is) e
+
+-- what was read of words is within its ranges
+pub read_in_range : (words : List Word) (result : Result Command WordsFault) → IsRead (command words) result → IfOk result IsInRange
+read_in_range words (Ok c) is = is_in_range words c is
+read_in_range words (Err fault) is = tt

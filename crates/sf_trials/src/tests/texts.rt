@@ -60,7 +60,7 @@ fn each_answer_is_put_once_and_never_patched(rt: HostRuntime) -> Result<(), Fail
     let alloc = rt.alloc();
     let cut = INPUT[..101].to_vec(alloc)?;
     // The words, the input, and how many appends the answer takes: a list takes one for its first line.
-    let rows: [(&[&str], &[u8], u64); 7] = [
+    let rows: [(&[&str], &[u8], u64); 8] = [
         (&["record", "a"], &INPUT, 1),
         (&["record", "a"], cut.as_slice(), 1),
         (&["record", "b"], &INPUT, 1),
@@ -68,6 +68,7 @@ fn each_answer_is_put_once_and_never_patched(rt: HostRuntime) -> Result<(), Fail
         (&["list", "a"], &INPUT, 1),
         (&["extract", "a", "s0,e", "r"], &FILE, 1),
         (&["make"], &INPUT, 1),
+        (&["make", "1", "1"], &INPUT, 1),
     ];
     for (words, input, appends) in rows {
         let words = words_of(alloc, words)?;
@@ -85,9 +86,10 @@ fn each_answer_is_put_once_and_never_patched(rt: HostRuntime) -> Result<(), Fail
 #[test]
 fn a_text_without_memory_ends_each_answer(rt: HostRuntime) -> Result<(), Fail> {
     let alloc = rt.alloc();
-    let rows: [(&[&str], &[u8], u64, &[u8]); 4] = [
+    let rows: [(&[&str], &[u8], u64, &[u8]); 5] = [
         (&["record", "a"], &INPUT, 0, b""),
         (&["extract", "a", "r"], &FILE, 0, b""),
+        (&["make", "1", "1"], &INPUT, 0, b""),
         (&["list", "a"], &FILE, 0, b"no memory\n"),
         (&["list", "a"], &FILE, 1, b"start 0\n"),
     ];
