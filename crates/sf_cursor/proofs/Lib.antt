@@ -5,6 +5,7 @@ pub mod OneSample
 pub mod RunValues
 pub mod StartLemmas
 pub mod SyncNumbers
+pub mod SyncSamples
 pub mod TickSums
 pub mod SizeSums
 pub mod HeldSamples

@@ -1,7 +1,8 @@
 -- The sample that the tables of a cursor list under a number.
-use Rattle.std.proofs.Common.{◌≡◌, ℕ, zero, suc, ℤ, pos, ◌+ℤ◌, ◌+◌, ◌-◌, ◌^◌, ◌<◌, ◌≤◌, nat_le, Bool, true, false, List, [], ◌∷◌, length, take, drop, sum, get_or, Some, Result, Ok, refl, sym, ap, ◌∙◌, subst, arith}
+use Rattle.std.proofs.Common.{◌≡◌, ℕ, zero, suc, ℤ, pos, neg_ℤ, ◌+ℤ◌, ◌≤ℤ◌, ◌<ℤ◌, ◌+◌, ◌-◌, ◌^◌, ◌<◌, ◌≤◌, nat_le, Bool, true, false, List, [], ◌∷◌, length, take, drop, sum, get_or, Some, Result, Ok, refl, sym, ap, ◌∙◌, subst, arith}
 use Rattle.std.specs.List.{slice_get}
 use Rattle.std.proofs.lemmas.Bool.{leb-true}
+use Rattle.std.proofs.lemmas.Int.{ints}
 use Rattle.sf_meaning.specs.Steps.{◌>>◌, check}
 use Rattle.sf_meaning.specs.inner.TrackTables.{tables_view}
 use Rattle.sf_meaning.specs.Tables.{is_sync}
@@ -11,7 +12,7 @@ use Rattle.sf_meaning.specs.TrackSamples.{Tables, counts_of, listed, samples_sai
 use Rattle.sf_meaning.specs.declared.entries.ChunkAt.{ChunkAt}
 use Rattle.sf_meaning.specs.declared.movie.PlainSample.{PlainSample}
 use Rattle.sf_meaning.specs.declared.track_tables.Tables.{Tables as HeldTables}
-use Rattle.sf_cursor.specs.Cursor.{HasPlace}
+use Rattle.sf_cursor.specs.Cursor.{HasPlace, IsComposed}
 use Rattle.sf_cursor.specs.inner.Sound.{IsInChunk, Sound, counts_in, counts_of_runs}
 use Rattle.sf_cursor.specs.inner.Held.{AreInChunks}
 use Rattle.sf_cursor.proofs.ChunkSums.{chunk_found}
@@ -210,3 +211,17 @@ all_reached t sound = enough sound.scale sound.entries (length (sizes_view t.siz
 -- there are as many as sizes
 pub all_there : Law → (t : HeldTables) → Sound t → length (listed (tables_view t)) ≡ length (sizes_view t.sizes)
 all_there law t sound = law.all sound.scale sound.entries (tables_view t) (listed (tables_view t)) (all_listed sound.scale sound.entries (tables_view t) sound.said)
+
+-- the tick that the times alone say of a sample
+pub composed_is : Law → (t : HeldTables) → Sound t → (i decode : ℕ) (offset tick : ℤ) → i < length (sizes_view t.sizes) → decode ≡ sum (take i (tables_view t).deltas)
+    → tick ≡ pos decode +ℤ offset → offset ≡ get_or (tables_view t).offsets i (pos 0) → neg_ℤ (pos (2 ^ 31)) ≤ℤ offset → offset <ℤ pos (2 ^ 32) → IsComposed (tables_view t) i tick
+composed_is law t sound i decode offset tick lt is sum_is offset_is least most =
+    let l : Listed (tables_view t) i = is_listed law sound.scale sound.entries (tables_view t) sound.said i lt in
+    let same : l.s.decode ≡ decode = l.is.decode ∙ sym is in
+    record {
+      s = l.s;
+      at = l.at;
+      compose = l.is.compose ∙ ap (λ (x : ℕ). pos x +ℤ get_or (tables_view t).offsets i (pos 0)) same ∙ sym (sum_is ∙ ap (λ (z : ℤ). pos decode +ℤ z) offset_is);
+      least = omega (arith, ints, sum_is, least);
+      most = omega (arith, ints, sum_is, most, same);
+    }

@@ -14,7 +14,7 @@ both true false e = absurd (cc e)
 both false b e = absurd (cc e)
 
 -- numbers that rise above t are above it
-above : (t : ℕ) (xs : List ℕ) (j : ℕ) → rising t xs ≡ true → j < length xs → t < get_or xs j 0
+pub above : (t : ℕ) (xs : List ℕ) (j : ℕ) → rising t xs ≡ true → j < length xs → t < get_or xs j 0
 above t [] j up lt = absurd (omega (arith, lt))
 above t (x ∷ xs) zero up lt = ltb-true t x ((both (ltb t x) (rising x xs) up).0)
 above t (x ∷ xs) (suc j) up lt =

@@ -1,13 +1,13 @@
 //! The cursor over the samples of a track.
 
-ghost use Rattle.std.specs.Prelude.{◌≡◌, ℕ, IfOk, OnOk, pos, neg_ℤ, ◌≤ℤ◌, ◌<ℤ◌, ◌+◌, ◌^◌, ◌<◌, length, slice_get, Some};
+ghost use Rattle.std.specs.Prelude.{◌≡◌, ℕ, IfOk, OnOk, pos, neg_ℤ, ◌≤ℤ◌, ◌<ℤ◌, ◌+◌, ◌^◌, ◌<◌, length, get_or, slice_get, Some};
 ghost use Rattle.sf_meaning.specs.Answers.{Gives};
 ghost use Rattle.sf_meaning.specs.TrackSamples.{listed};
 ghost use Rattle.sf_meaning.specs.Tracks.{held_in};
-ghost use Rattle.sf_cursor.specs.Cursor.{tables_in, HasPlace};
+ghost use Rattle.sf_cursor.specs.Cursor.{tables_in, HasPlace, IsComposed, numbers_in};
 
 use crate::chunks::{chunk_of, chunk_starts};
-use crate::look_up::{compose_at, is_sync, offset_at, place_at};
+use crate::look_up::{compose_at, is_sync, offset_at, place_at, sync_count, sync_number};
 use crate::starts::run_starts;
 use crate::sums::block_sums;
 use crate::tables::{SoundTables, tables_held};
@@ -106,6 +106,47 @@ impl Cursor {
         ensures places { OnOk result ((i : ℕ) → HasPlace self.now i) }
     {
         tables_held(&self.tables, track, bytes)
+    }
+
+    /// The number of sync samples.
+    pub fn sync_count(&self) -> u64
+        ensures { result ≡ length (numbers_in 0 (listed self.now)) }
+    {
+        samples_one_by_one();
+        sync_count(&self.tables.sync, count_of(&self.tables.sizes))
+    }
+
+    /// The number of a sync sample, from 0, by its place among the sync samples, from 0.
+    pub fn sync_number(&self, k: u64) -> u64
+        requires { k < length (numbers_in 0 (listed self.now)) }
+        ensures exact { result ≡ get_or (numbers_in 0 (listed self.now)) k 0 }
+        ensures there { result < length (listed self.now) }
+    {
+        samples_one_by_one();
+        sync_number(&self.tables.sync, k)
+    }
+
+    /// When a sample is composed, in ticks, by its number from 0. It looks at the times alone.
+    pub fn composed(&self, i: u64) -> i64
+        requires { i < length self.now.sizes }
+        ensures { IsComposed self.now i result }
+    {
+        samples_one_by_one();
+        let tables = &self.tables;
+        let i = i as u32;
+        let decode = decode_at(
+            tables.deltas.as_slice(),
+            self.time_starts.as_slice(),
+            self.ticks.as_slice(),
+            i,
+        );
+        let offset = offset_at(
+            tables.version,
+            tables.offsets.as_slice(),
+            self.offset_starts.as_slice(),
+            i,
+        );
+        compose_at(decode, offset)
     }
 
     /// A sample by its number, from 0. It takes no memory.

@@ -1,10 +1,10 @@
 //! What the tables of a track say of one sample.
 
-ghost use Rattle.std.specs.Prelude.{◌≡◌, pos, neg_ℤ, ◌+ℤ◌, ◌≤ℤ◌, ◌<ℤ◌, ◌+◌, ◌-◌, ◌*◌, ◌^◌, ◌<◌, ◌≤◌, length, take, drop, map, sum, get_or, slice_get};
+ghost use Rattle.std.specs.Prelude.{◌≡◌, ℕ, List, pos, neg_ℤ, ◌+ℤ◌, ◌≤ℤ◌, ◌<ℤ◌, ◌+◌, ◌-◌, ◌*◌, ◌^◌, ◌<◌, ◌≤◌, length, take, drop, map, sum, get_or, slice_get};
 ghost use Rattle.sf_meaning.specs.ReadTables.{time_runs, sizes_view};
 ghost use Rattle.sf_meaning.specs.inner.Entries.{Rises};
 ghost use Rattle.sf_meaning.specs.Tables.{expand, offset_in, is_sync};
-ghost use Rattle.sf_cursor.specs.inner.Sound.{AreStarts, HaveSums, counts_of_runs};
+ghost use Rattle.sf_cursor.specs.inner.Sound.{AreStarts, AreSyncs, HaveSums, IsTold, counts_of_runs, number_told};
 
 use crate::starts::last_begun;
 use crate::sums::bytes_of;
@@ -61,6 +61,30 @@ pub(crate) fn is_sync(sync: &Option<Items<u32>>, number: u32) -> bool
     match sync {
         None => true,
         Some(numbers) => numbers.as_slice().binary_search(&number).is_ok(),
+    }
+}
+
+/// How many of so many samples are sync.
+pub(crate) fn sync_count(sync: &Option<Items<u32>>, count: u32) -> u64
+    requires { Rises 0 sync.now }
+    ensures { (numbers : List ℕ) → AreSyncs sync.now count numbers → result ≡ length numbers }
+{
+    match sync {
+        None => u64::from(count),
+        Some(numbers) => numbers
+            .as_slice()
+            .partition_point(|number| *number <= count) as u64,
+    }
+}
+
+/// The number of a sync sample, from 0, by its place among the sync samples.
+pub(crate) fn sync_number(sync: &Option<Items<u32>>, k: u64) -> u64
+    requires { IsTold sync.now k }
+    ensures { result ≡ number_told sync.now k }
+{
+    match sync {
+        None => k,
+        Some(numbers) => u64::from(numbers.as_slice()[k as usize] - 1),
     }
 }
 

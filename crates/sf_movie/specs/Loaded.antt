@@ -1,6 +1,7 @@
 -- A movie that was loaded: what its bytes say, and what is told of it.
-use Rattle.std.specs.Prelude.{ℕ, zero, suc, List, length, Option, Some, None, option_and_then}
+use Rattle.std.specs.Prelude.{ℕ, zero, suc, List, [], length, Option, Some, None, option_and_then}
 use Rattle.std.specs.List.{slice_get}
+use Rattle.sf_cursor.specs.Cursor.{numbers_in}
 use Rattle.sf_entry.specs.declared.types.Entry.{Entry}
 use Rattle.sf_entry.specs.declared.types.Entry.TheVariants.{Avc, Aac, Other}
 use Rattle.sf_entry.specs.declared.types.EntryAt.{EntryAt}
@@ -24,6 +25,14 @@ sample_count m t = count_of (slice_get m.tracks t)
 -- sample i of track t
 abbrev pub sample_of : PlainMovie → ℕ → ℕ → Option PlainSample
 sample_of m t i = option_and_then (λ track. slice_get track.samples i) (slice_get m.tracks t)
+
+abbrev pub sync_samples_of : Option PlainTrack → List ℕ
+sync_samples_of None = []
+sync_samples_of (Some track) = numbers_in 0 track.samples
+
+-- the numbers of the sync samples of track t, from 0
+abbrev pub sync_samples : PlainMovie → ℕ → List ℕ
+sync_samples m t = sync_samples_of (slice_get m.tracks t)
 
 -- how many bytes the length of a NAL unit has (14496-15, 5.3.3.1), by an entry of AVC
 abbrev pub width_of : Entry → Option ℕ

@@ -1,13 +1,13 @@
 //! A movie that is loaded through its source.
 
-ghost use Rattle.std.specs.Prelude.{◌≡◌, ℕ, pos, ◌+◌, ◌^◌, ◌≤◌, ◌<◌, length, option_and_then, option_map, Some, Ok, IfOk, IfSome};
+ghost use Rattle.std.specs.Prelude.{◌≡◌, ℕ, pos, ◌+◌, ◌^◌, ◌≤◌, ◌<◌, length, get_or, option_and_then, option_map, Some, Ok, IfOk, IfSome};
 ghost use Rattle.std.specs.List.{AllByRecursion, slice_get};
 ghost use Rattle.sf_entry.specs.Stsd.{HasWidth};
 ghost use Rattle.sf_meaning.specs.Answers.{Gives};
 ghost use Rattle.sf_meaning.specs.Entries.{moov_entries, movie_entries};
 ghost use Rattle.sf_meaning.specs.Movie.{movie, movie_in};
 ghost use Rattle.sf_meaning.specs.Shown.{shown};
-ghost use Rattle.sf_movie.specs.Loaded.{entry_of, sample_count, sample_of, unit_width, width_of};
+ghost use Rattle.sf_movie.specs.Loaded.{entry_of, sample_count, sample_of, sync_samples, unit_width, width_of};
 ghost use Rattle.sf_movie.specs.Loads.{IsWithin, LoadsOver, OfTold, Reads};
 ghost use Rattle.sf_tick.specs.Tick.{us};
 
@@ -160,6 +160,25 @@ impl Movie {
         track_at(self.parts.tracks.as_slice(), t).samples.count()
     }
 
+    /// The number of sync samples of a track.
+    pub fn sync_count(&self, t: u32) -> u64
+        requires { t < length self.now.movie.tracks }
+        ensures { result ≡ length (sync_samples self.now.movie t) }
+    {
+        let track = track_at(self.parts.tracks.as_slice(), t);
+        track.samples.sync_count()
+    }
+
+    /// The number of a sync sample of a track, from 0, by its place among them, from 0.
+    pub fn sync_number(&self, t: u32, k: u64) -> u64
+        requires { k < length (sync_samples self.now.movie t) }
+        ensures exact { result ≡ get_or (sync_samples self.now.movie t) k 0 }
+        ensures there { result < sample_count self.now.movie t }
+    {
+        let track = track_at(self.parts.tracks.as_slice(), t);
+        track.samples.sync_number(k)
+    }
+
     /// A sample of a track, by its number from 0.
     pub fn sample(&self, t: u32, i: u64) -> PlainSample
         requires { i < sample_count self.now.movie t }
@@ -175,10 +194,10 @@ impl Movie {
         ensures { shown self.now.movie t i ≡ Some result }
     {
         let track = track_at(self.parts.tracks.as_slice(), t);
-        let sample = track.samples.sample(i);
+        let compose = track.samples.composed(i);
         let lead_us = length_us(track.shift.lead, self.parts.scale);
         let media_us = length_us(track.shift.media_time, track.scale);
-        shown_us(sample.compose, track.scale, lead_us, media_us)
+        shown_us(compose, track.scale, lead_us, media_us)
     }
 
     /// How many bytes the length of a NAL unit has, 1 to 4, in the samples of an entry of a track, which

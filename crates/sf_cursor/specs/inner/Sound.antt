@@ -1,5 +1,5 @@
 -- What holds of the tables that a cursor keeps.
-use Rattle.std.specs.Prelude.{◌≡◌, ℕ, ◌+◌, ◌-◌, ◌*◌, ◌/◌, ◌^◌, ◌<◌, ◌≤◌, min, List, length, take, map, sum, get_or, Ok}
+use Rattle.std.specs.Prelude.{◌≡◌, ℕ, ◌+◌, ◌-◌, ◌*◌, ◌/◌, ◌^◌, ◌<◌, ◌≤◌, min, List, length, take, map, sum, get_or, Option, Some, None, Ok}
 use Rattle.sf_meaning.specs.inner.TrackTables.{IsInOrder, tables_view}
 use Rattle.sf_meaning.specs.ReadTables.{sizes_view, spreads_as, time_runs}
 use Rattle.sf_meaning.specs.SampleAt.{IsChunkOf}
@@ -95,3 +95,30 @@ pub record Indexed (t : HeldTables) (time_starts ticks offset_starts chunk_start
   pub offsets : AreStarts (counts_of_runs t.offsets) offset_starts
   pub starts : AreChunkStarts t.spreads (length t.places) chunk_starts
   pub sizes : HaveSums t.sizes sums
+
+-- Of sync samples by their numbers from 0 a table tells the numbers from 1, and after those only numbers above so many samples.
+pub record Tells (table : List ℕ) (count : ℕ) (numbers : List ℕ) : Type 0 where
+  pub long : length numbers ≤ length table
+  pub at : (k : ℕ) → k < length numbers → get_or numbers k 0 + 1 ≡ get_or table k 0
+  pub within : (k : ℕ) → k < length numbers → get_or table k 0 ≤ count
+  pub past : (k : ℕ) → length numbers ≤ k → k < length table → count < get_or table k 0
+
+-- Sync samples are all of so many samples.
+pub record AreAll (count : ℕ) (numbers : List ℕ) : Type 0 where
+  pub long : length numbers ≡ count
+  pub at : (k : ℕ) → k < length numbers → get_or numbers k 0 ≡ k
+
+-- these are the numbers, from 0, of the sync samples of so many samples: each is one where no numbers are told
+abbrev pub AreSyncs : Option (List ℕ) → ℕ → List ℕ → Type 0
+AreSyncs None count numbers = AreAll count numbers
+AreSyncs (Some table) count numbers = Tells table count numbers
+
+-- one is told at a place
+abbrev pub IsTold : Option (List ℕ) → ℕ → Type 0
+IsTold None k = Unit {0}
+IsTold (Some table) k = (k < length table) × (0 < get_or table k 0)
+
+-- its number, from 0
+abbrev pub number_told : Option (List ℕ) → ℕ → ℕ
+number_told None k = k
+number_told (Some table) k = get_or table k 0 - 1
