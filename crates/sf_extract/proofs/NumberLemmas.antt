@@ -8,18 +8,19 @@ use Rattle.std.proofs.lemmas.List.Elements.{Contains-get_or}
 use Rattle.std.proofs.lemmas.Cmp.{int_cmp_total, nat_cmp_total, on_total, then_total}
 use Rattle.std.proofs.lemmas.List.Sorted.{Contains-permutation, IsPermutation-sym, ranks_by, sorted_far}
 use Rattle.std.specs.Ordering.{ordering_then}
-use Rattle.std.proofs.lemmas.Option.{get_or_from_slice_get, slice_get_past, slice_get_within}
+use Rattle.std.proofs.lemmas.Option.{slice_get_past}
 use Rattle.sf_meaning.specs.Shown.{shown, shown_us}
 use Rattle.sf_meaning.specs.declared.movie.PlainMovie.{PlainMovie}
 use Rattle.sf_meaning.specs.declared.movie.PlainSample.{PlainSample}
 use Rattle.sf_meaning.specs.declared.movie.PlainTrack.{PlainTrack}
-use Rattle.sf_movie.specs.Loaded.{count_of, sample_count, sample_of}
+use Rattle.sf_movie.specs.Loaded.{count_of, sample_count, sync_samples, sync_samples_of}
+use Rattle.sf_cursor.specs.Cursor.{numbers_in}
 use Rattle.sf_extract.specs.SyncAt.{syncs_in, syncs_of}
-use Rattle.sf_extract.specs.inner.Orders.{AreNumbered, AreOrders, AreTheOrders, EachRises, IsOrder, Rises, Sorts, kept_count, kept_number, nth, numbers_from, numbers_in, ordered, sync_of, time_at}
+use Rattle.sf_extract.specs.inner.Orders.{AreNumbered, AreOrders, AreTheOrders, IsOrder, Rises, Sorts, SyncsRise, kept_count, kept_number, nth, ordered, sync_of, time_at}
 use Rattle.sf_extract.proofs.OrderLemmas.{upto_by}
 use Rattle.sf_extract.proofs.SeatLemmas.{none_shown}
 use Rattle.sf_extract.specs.declared.order.SyncOrder.{SyncOrder}
-use Rattle.sf_extract.specs.declared.order.SyncOrder.TheVariants.{Each, Listed}
+use Rattle.sf_extract.specs.declared.order.SyncOrder.TheVariants.{ByNumber, Listed}
 use Rattle.sf_extract.specs.declared.types.Sync.{Sync}
 
 shown_is : (m : PlainMovie) (t : ℕ) (track : PlainTrack) (i : ℕ) (s : PlainSample) → slice_get m.tracks t ≡ Some track → slice_get track.samples i ≡ Some s → time_at m t i ≡ shown_us m track s
@@ -42,13 +43,13 @@ syncs_by m t track i (s ∷ ss) h =
     (ap (λ (z : ℤ). record { sample = i; shown_us = z }) (sym first))
     (syncs_by m t track (i + 1) ss (λ k x e. subst (λ (n : ℕ). time_at m t n ≡ shown_us m track x) (omega arith) (h (suc k) x e)))
 
-syncs_found : (m : PlainMovie) (t : ℕ) (found : Option PlainTrack) → slice_get m.tracks t ≡ found → syncs_of m found ≡ map (sync_of m t) (numbers_from found 0)
+syncs_found : (m : PlainMovie) (t : ℕ) (found : Option PlainTrack) → slice_get m.tracks t ≡ found → syncs_of m found ≡ map (sync_of m t) (sync_samples_of found)
 syncs_found m t None e = refl
 syncs_found m t (Some track) e =
     syncs_by m t track 0 track.samples (λ k s at. subst (λ (n : ℕ). time_at m t n ≡ shown_us m track s) (omega arith) (shown_is m t track k s e at))
 
 -- the sync samples of a track by their numbers
-pub syncs_are : (m : PlainMovie) (t : ℕ) → syncs_of m (slice_get m.tracks t) ≡ map (sync_of m t) (numbers_from (slice_get m.tracks t) 0)
+pub syncs_are : (m : PlainMovie) (t : ℕ) → syncs_of m (slice_get m.tracks t) ≡ map (sync_of m t) (sync_samples m t)
 syncs_are m t = syncs_found m t (slice_get m.tracks t) refl
 
 numbered_less : (a b : ℕ) (xs : List Sync) → a ≤ b → AreNumbered b xs → AreNumbered a xs
@@ -87,7 +88,7 @@ sorted_rises m t ns h = λ i j le lt.
     rw (first, second) (record { shown = up.0; tie = up.1 })
 
 -- the sync samples of a track that were put in order
-pub listed_order : (m : PlainMovie) (t : ℕ) (old new : List ℕ) → old ≡ numbers_from (slice_get m.tracks t) 0 → Sorts (map (sync_of m t) old) (map (sync_of m t) new) → IsOrder m t (Listed new)
+pub listed_order : (m : PlainMovie) (t : ℕ) (old new : List ℕ) → old ≡ sync_samples m t → Sorts (map (sync_of m t) old) (map (sync_of m t) new) → IsOrder m t (Listed new)
 listed_order m t old new e h =
     let all : map (sync_of m t) old ≡ syncs_of m (slice_get m.tracks t) = ap (map (sync_of m t)) e ∙ sym (syncs_are m t) in
     let sorted : List Sync = map (sync_of m t) new in
@@ -104,54 +105,34 @@ listed_order m t old new e h =
       at = λ k lt. get_or-map (sync_of m t) new k 0 (record { sample = 0; shown_us = pos 0 }) (omega (arith, lt, long));
     }
 
-all_numbers : (i : ℕ) (ss : List PlainSample) → ((k : ℕ) (s : PlainSample) → slice_get ss k ≡ Some s → s.sync ≡ true) → length (numbers_in i ss) ≡ length ss
-all_numbers i [] h = refl
-all_numbers i (s ∷ ss) h =
-    ap (λ (b : Bool). length (if b then i ∷ numbers_in (i + 1) ss else numbers_in (i + 1) ss)) (h 0 s refl) ∙ ap suc (all_numbers (i + 1) ss (λ k x e. h (suc k) x e))
+numbered_low : (n : ℕ) (ss : List Sync) → AreNumbered n ss → (j : ℕ) → j < length ss → n ≤ (nth ss j).sample
+numbered_low n [] h j lt = absurd (omega (arith, lt))
+numbered_low n (s ∷ ss) h zero lt = h.0
+numbered_low n (s ∷ ss) h (suc j) lt = (let low = numbered_low (s.sample + 1) ss h.1 j (omega (arith, lt)) in omega (arith, h.0, low))
 
-number_at : (i : ℕ) (ss : List PlainSample) → ((k : ℕ) (s : PlainSample) → slice_get ss k ≡ Some s → s.sync ≡ true) → (k : ℕ) → k < length ss → get_or (numbers_in i ss) k 0 ≡ i + k
-number_at i [] h k lt = absurd (omega (arith, lt))
-number_at i (s ∷ ss) h zero lt = ap (λ (b : Bool). get_or (if b then i ∷ numbers_in (i + 1) ss else numbers_in (i + 1) ss) 0 0) (h 0 s refl) ∙ omega arith
-number_at i (s ∷ ss) h (suc k) lt =
-    let rest = number_at (i + 1) ss (λ k x e. h (suc k) x e) k (omega (arith, lt)) in
-    ap (λ (b : Bool). get_or (if b then i ∷ numbers_in (i + 1) ss else numbers_in (i + 1) ss) (suc k) 0) (h 0 s refl) ∙ omega (arith, rest)
+numbered_up : (n : ℕ) (ss : List Sync) → AreNumbered n ss → (i j : ℕ) → i ≤ j → j < length ss → (nth ss i).sample ≤ (nth ss j).sample
+numbered_up n [] h i j le lt = absurd (omega (arith, lt))
+numbered_up n (s ∷ ss) h zero zero le lt = omega arith
+numbered_up n (s ∷ ss) h zero (suc j) le lt = (let low = numbered_low (s.sample + 1) ss h.1 j (omega (arith, lt)) in omega (arith, low))
+numbered_up n (s ∷ ss) h (suc i) zero le lt = absurd (omega (arith, le))
+numbered_up n (s ∷ ss) h (suc i) (suc j) le lt = numbered_up (s.sample + 1) ss h.1 i j (omega (arith, le)) (omega (arith, lt))
 
--- each sample of a track is a sync sample
-abbrev AllSync : Option PlainTrack → Type 0
-AllSync found = (k : ℕ) (s : PlainSample) → option_and_then (λ (track : PlainTrack). slice_get track.samples k) found ≡ Some s → s.sync ≡ true
-
-each_len : (found : Option PlainTrack) → AllSync found → length (numbers_from found 0) ≡ count_of found
-each_len None h = refl
-each_len (Some track) h = all_numbers 0 track.samples h
-
-each_at : (found : Option PlainTrack) → AllSync found → (k : ℕ) → k < count_of found → get_or (numbers_from found 0) k 0 ≡ k
-each_at None h k lt = absurd (omega (arith, lt))
-each_at (Some track) h k lt = number_at 0 track.samples h k lt ∙ omega arith
-
-within : (found : Option PlainTrack) (k : ℕ) (s : PlainSample) → option_and_then (λ (track : PlainTrack). slice_get track.samples k) found ≡ Some s → k < count_of found
-within None k s e = absurd (grind (arith, e))
-within (Some track) k s e = slice_get_within track.samples k s e
-
--- the sync samples of a track of which each sample is one, where none is shown before an earlier one
-pub each_order : (m : PlainMovie) (t : ℕ) → EachRises m t (sample_count m t) → IsOrder m t Each
-each_order m t h =
-    let found : Option PlainTrack = slice_get m.tracks t in
-    let ss : List Sync = syncs_of m found in
-    let numbers : List ℕ = numbers_from found 0 in
-    let sync : AllSync found = λ k s e. h.sync k s (within found k s e) e in
+-- the sync samples of a track that are shown in the order of their numbers
+pub number_order : (m : PlainMovie) (t n : ℕ) → n ≡ length (sync_samples m t) → SyncsRise m t n → IsOrder m t (ByNumber n)
+number_order m t n count h =
+    let ss : List Sync = syncs_of m (slice_get m.tracks t) in
+    let numbers : List ℕ = sync_samples m t in
     let are : ss ≡ map (sync_of m t) numbers = syncs_are m t in
-    let count : length numbers ≡ sample_count m t = each_len found sync in
-    let long : length ss ≡ sample_count m t = ap length are ∙ length-map numbers (sync_of m t) ∙ count in
-    let at : (k : ℕ) → k < length ss → nth ss k ≡ sync_of m t k = λ k lt.
-    ap (λ (xs : List Sync). nth xs k) are
-    ∙ get_or-map (sync_of m t) numbers k 0 (record { sample = 0; shown_us = pos 0 }) (omega (arith, lt, long, count))
-    ∙ ap (sync_of m t) (each_at found sync k (omega (arith, lt, long))) in
+    let long : length ss ≡ n = ap length are ∙ length-map numbers (sync_of m t) ∙ sym count in
+    let at : (k : ℕ) → k < length ss → nth ss k ≡ sync_of m t (get_or numbers k 0) = λ k lt.
+    ap (λ (xs : List Sync). nth xs k) are ∙ get_or-map (sync_of m t) numbers k 0 (record { sample = 0; shown_us = pos 0 }) (omega (arith, lt, long, count)) in
+    let shown : (k : ℕ) → k < length ss → (nth ss k).shown_us ≡ time_at m t (get_or numbers k 0) = λ k lt. ap (λ (s : Sync). s.shown_us) (at k lt) in
     record {
       in_order = record {
-        rises = λ i j le lt. rw (at i (omega (arith, le, lt)), at j lt) (record {
-          shown = h.rises i j le (omega (arith, lt, long));
-          tie = λ less. absurd (omega (arith, less, le));
-        });
+        rises = λ i j le lt. record {
+          shown = rw (shown i (omega (arith, le, lt)), shown j lt) (h.rises i j le (omega (arith, lt, long)));
+          tie = λ less. (let up = numbered_up 0 ss (numbered_of m (slice_get m.tracks t)) i j le lt in absurd (omega (arith, less, up)));
+        };
         there = λ i lt. Contains-get_or ss i (record { sample = 0; shown_us = pos 0 }) lt;
         all = λ s i. (i.0, i.1, any_default ss i.0 (record { sample = 0; shown_us = pos 0 }) s i.1 ∙ i.2);
       };
@@ -162,58 +143,38 @@ each_order m t h =
 one_more : (i n : ℕ) → i < n + 1 → (i < n) ⊎ (i ≡ n)
 one_more i n lt = grind (arith, lt)
 
--- one sample more is a sync sample that isn't shown before an earlier one
-pub rises_more : (m : PlainMovie) (t n : ℕ) (last : ℤ) (s : PlainSample) → EachRises m t n → ((i : ℕ) → i < n → time_at m t i ≤ℤ last) → sample_of m t n ≡ Some s → s.sync ≡ true → last ≤ℤ time_at m t n
-    → EachRises m t (n + 1) × ((i : ℕ) → i < n + 1 → time_at m t i ≤ℤ time_at m t n)
-rises_more m t n last s h upto at is le =
-    let here : (i : ℕ) → i < n + 1 → time_at m t i ≤ℤ time_at m t n = λ i lt. elim (one_more i n lt) as (λ _. time_at m t i ≤ℤ time_at m t n) [
+-- one sync sample more isn't shown before an earlier one
+pub rises_more : (m : PlainMovie) (t n : ℕ) (last at : ℤ) → SyncsRise m t n → ((i : ℕ) → i < n → time_at m t (get_or (sync_samples m t) i 0) ≤ℤ last) → at ≡ time_at m t (get_or (sync_samples m t) n 0) → last ≤ℤ at
+    → SyncsRise m t (n + 1) × ((i : ℕ) → i < n + 1 → time_at m t (get_or (sync_samples m t) i 0) ≤ℤ at)
+rises_more m t n last at h upto is le =
+    let here : (i : ℕ) → i < n + 1 → time_at m t (get_or (sync_samples m t) i 0) ≤ℤ at = λ i lt. elim (one_more i n lt) as (λ _. time_at m t (get_or (sync_samples m t) i 0) ≤ℤ at) [
       | inl less ↦ (let before = upto i less in omega (arith, ints, before, le))
-      | inr same ↦ rw same (grind (arith, ints))
+      | inr same ↦ subst (λ (k : ℕ). time_at m t (get_or (sync_samples m t) k 0) ≤ℤ at) (sym same) (omega (arith, ints, is))
     ] in (
       record {
-        sync = λ i x lt e. elim (one_more i n lt) as (λ _. x.sync ≡ true) [
-          | inl less ↦ h.sync i x less e
-          | inr same ↦ ap (λ (o : Option PlainSample). (unwrap_or o x).sync) (sym e ∙ ap (sample_of m t) same ∙ at) ∙ is
-        ];
-        rises = λ i j ij lt. elim (one_more j n lt) as (λ _. time_at m t i ≤ℤ time_at m t j) [
+        rises = λ i j ij lt. elim (one_more j n lt) as (λ _. time_at m t (get_or (sync_samples m t) i 0) ≤ℤ time_at m t (get_or (sync_samples m t) j 0)) [
           | inl less ↦ h.rises i j ij less
-          | inr same ↦ rw same (here i (omega (arith, ij, lt)))
+          | inr same ↦ subst (λ (k : ℕ). time_at m t (get_or (sync_samples m t) i 0) ≤ℤ time_at m t (get_or (sync_samples m t) k 0)) (sym same)
+              (subst (λ (z : ℤ). time_at m t (get_or (sync_samples m t) i 0) ≤ℤ z) is (here i (omega (arith, ij, lt))))
         ];
       },
       here,
     )
 
-skipped : (found : Option PlainTrack) (i : ℕ) (s : PlainSample) (b : Bool) → option_and_then (λ (track : PlainTrack). slice_get track.samples i) found ≡ Some s → s.sync ≡ b
-    → numbers_from found i ≡ (if b then i ∷ numbers_from found (i + 1) else numbers_from found (i + 1))
-skipped None i s b at e = absurd (grind (arith, at))
-skipped (Some track) i s b at e =
-    ap (numbers_in i) (drop_more track.samples i s (slice_get_within track.samples i s at) ∙ ap (λ (y : PlainSample). y ∷ drop (i + 1) track.samples) (get_or_from_slice_get track.samples i s s at))
-    ∙ ap (λ (d : Bool). if d then i ∷ numbers_in (i + 1) (drop (i + 1) track.samples) else numbers_in (i + 1) (drop (i + 1) track.samples)) e
-
 -- the number of a sync sample is put to those before it
-pub number_more : (m : PlainMovie) (t i : ℕ) (s : PlainSample) (ns all : List ℕ) → sample_of m t i ≡ Some s → s.sync ≡ true → ns ++ numbers_from (slice_get m.tracks t) i ≡ all
-    → (ns ++ i ∷ []) ++ numbers_from (slice_get m.tracks t) (i + 1) ≡ all
-number_more m t i s ns all at is h = append_assoc ns (i ∷ []) (numbers_from (slice_get m.tracks t) (i + 1)) ∙ ap (λ (l : List ℕ). ns ++ l) (sym (skipped (slice_get m.tracks t) i s true at is)) ∙ h
+pub number_more : (all ns : List ℕ) (k x : ℕ) → k < length all → x ≡ get_or all k 0 → ns ++ drop k all ≡ all → (ns ++ x ∷ []) ++ drop (k + 1) all ≡ all
+number_more all ns k x lt e h = append_assoc ns (x ∷ []) (drop (k + 1) all) ∙ ap (λ (l : List ℕ). ns ++ l) (sym (drop_more all k 0 lt ∙ ap (λ (y : ℕ). y ∷ drop (k + 1) all) (sym e))) ∙ h
 
--- that of another sample isn't
-pub number_less : (m : PlainMovie) (t i : ℕ) (s : PlainSample) (ns all : List ℕ) → sample_of m t i ≡ Some s → s.sync ≡ false → ns ++ numbers_from (slice_get m.tracks t) i ≡ all
-    → ns ++ numbers_from (slice_get m.tracks t) (i + 1) ≡ all
-number_less m t i s ns all at is h = ap (λ (l : List ℕ). ns ++ l) (sym (skipped (slice_get m.tracks t) i s false at is)) ∙ h
+-- at their end all were put
+pub numbers_end : (all ns : List ℕ) (k : ℕ) → length all ≤ k → ns ++ drop k all ≡ all → ns ≡ all
+numbers_end all ns k le h = sym (append-nil ns) ∙ ap (λ (l : List ℕ). ns ++ l) (sym (drop_all k all le)) ∙ h
 
-end_of : (found : Option PlainTrack) (i : ℕ) → count_of found ≤ i → numbers_from found i ≡ []
-end_of None i le = refl
-end_of (Some track) i le = ap (numbers_in i) (drop_all i track.samples le)
-
--- at the end of a track all numbers were put
-pub numbers_end : (m : PlainMovie) (t i : ℕ) (ns all : List ℕ) → sample_count m t ≤ i → ns ++ numbers_from (slice_get m.tracks t) i ≡ all → ns ≡ all
-numbers_end m t i ns all le h = sym (append-nil ns) ∙ ap (λ (l : List ℕ). ns ++ l) (sym (end_of (slice_get m.tracks t) i le)) ∙ h
-
-pushed_below : (os : List SyncOrder) (o : SyncOrder) (k : ℕ) → k < length os → get_or (os ++ o ∷ []) k Each ≡ get_or os k Each
+pushed_below : (os : List SyncOrder) (o : SyncOrder) (k : ℕ) → k < length os → get_or (os ++ o ∷ []) k (ByNumber 0) ≡ get_or os k (ByNumber 0)
 pushed_below [] o k lt = absurd (omega (arith, lt))
 pushed_below (x ∷ xs) o zero lt = refl
 pushed_below (x ∷ xs) o (suc k) lt = pushed_below xs o k (omega (arith, lt))
 
-pushed_at : (os : List SyncOrder) (o : SyncOrder) (k : ℕ) → k ≡ length os → get_or (os ++ o ∷ []) k Each ≡ o
+pushed_at : (os : List SyncOrder) (o : SyncOrder) (k : ℕ) → k ≡ length os → get_or (os ++ o ∷ []) k (ByNumber 0) ≡ o
 pushed_at [] o zero e = refl
 pushed_at [] o (suc k) e = absurd (omega (arith, e))
 pushed_at (x ∷ xs) o zero e = absurd (omega (arith, e))
@@ -228,7 +189,7 @@ other_default (x ∷ xs) (suc t) a b lt = other_default xs t a b (omega (arith, 
 pub order_more : (m : PlainMovie) (n : ℕ) (os : List SyncOrder) (o : SyncOrder) → AreOrders m n os → IsOrder m n o → AreOrders m (n + 1) (os ++ o ∷ [])
 order_more m n os o h i = record {
   count = length_push os o ∙ ap (λ (k : ℕ). k + 1) h.count;
-  each = λ t lt. elim (one_more t n (omega (arith, lt, length_push os o, h.count))) as (λ _. IsOrder m t (get_or (os ++ o ∷ []) t Each)) [
+  each = λ t lt. elim (one_more t n (omega (arith, lt, length_push os o, h.count))) as (λ _. IsOrder m t (get_or (os ++ o ∷ []) t (ByNumber 0))) [
     | inl less ↦ (let below : t < length os = omega (arith, less, h.count) in subst (λ (x : SyncOrder). IsOrder m t x) (sym (pushed_below os o t below)) (h.each t below))
     | inr same ↦ subst (λ (x : SyncOrder). IsOrder m t x) (sym (pushed_at os o t (omega (arith, same, h.count)))) (subst (λ (k : ℕ). IsOrder m k o) (sym same) i)
   ];
@@ -249,15 +210,21 @@ time_past m t i le = sym (ap (λ (o : Option ℤ). unwrap_or o (pos 0)) (none_sh
 pub time_is : (m : PlainMovie) (t i : ℕ) (z : ℤ) → shown m t i ≡ Some z → z ≡ time_at m t i
 time_is m t i z e = sym (ap (λ (o : Option ℤ). unwrap_or o (pos 0)) e)
 
--- the sync sample at a place, where each sample of a track is one
-pub order_each : (m : PlainMovie) (t k : ℕ) (o : SyncOrder) → IsOrder m t o → k < length (ordered m t o) → o ≡ Each → sync_of m t k ≡ nth (ordered m t o) k
-order_each m t k o h lt e = sym (h.at k lt ∙ ap (λ (x : SyncOrder). sync_of m t (kept_number x k)) e)
+-- there are as many sync samples as there are in order
+pub order_within : (m : PlainMovie) (t k n : ℕ) (o : SyncOrder) → k < length (ordered m t o) → o ≡ ByNumber n → k < length (sync_samples m t)
+order_within m t k n o lt e =
+    let long : length (ordered m t o) ≡ length (sync_samples m t) = ap (λ (x : SyncOrder). length (ordered m t x)) e ∙ ap length (syncs_are m t) ∙ length-map (sync_samples m t) (sync_of m t) in
+    omega (arith, lt, long)
+
+-- the sync sample at a place, where they're shown in the order of their numbers
+pub order_numbered : (m : PlainMovie) (t k n : ℕ) (o : SyncOrder) → IsOrder m t o → k < length (ordered m t o) → o ≡ ByNumber n → sync_of m t (get_or (sync_samples m t) k 0) ≡ nth (ordered m t o) k
+order_numbered m t k n o h lt e = sym (h.at k lt ∙ ap (λ (x : SyncOrder). sync_of m t (kept_number m t x k)) e)
 
 -- the same where their numbers are listed
 pub order_listed : (m : PlainMovie) (t k x : ℕ) (o : SyncOrder) (ns : List ℕ) → IsOrder m t o → k < length (ordered m t o) → o ≡ Listed ns → k < length ns → x ≡ get_or ns k x
     → sync_of m t x ≡ nth (ordered m t o) k
 order_listed m t k x o ns h lt e short at =
-    ap (sync_of m t) (at ∙ get_or_default_zero ns k x short) ∙ sym (h.at k lt ∙ ap (λ (y : SyncOrder). sync_of m t (kept_number y k)) e)
+    ap (sync_of m t) (at ∙ get_or_default_zero ns k x short) ∙ sym (h.at k lt ∙ ap (λ (y : SyncOrder). sync_of m t (kept_number m t y k)) e)
 
 -- there is a number at that place
 pub order_short : (m : PlainMovie) (t k : ℕ) (o : SyncOrder) (ns : List ℕ) → k < length (ordered m t o) → o ≡ Listed ns → k < length ns
@@ -266,8 +233,8 @@ order_short m t k o ns lt e =
     omega (arith, lt, long)
 
 -- how many sync samples there are
-pub order_count : (m : PlainMovie) (t n : ℕ) (o x : SyncOrder) → IsOrder m t o → o ≡ x → n ≡ kept_count m t x → n ≡ length (ordered m t o)
-order_count m t n o x h e is = is ∙ sym (h.count ∙ ap (kept_count m t) e)
+pub order_count : (m : PlainMovie) (t n : ℕ) (o x : SyncOrder) → IsOrder m t o → o ≡ x → n ≡ kept_count x → n ≡ length (ordered m t o)
+order_count m t n o x h e is = is ∙ sym (h.count ∙ ap kept_count e)
 
 -- numbers that were lent and written are those that were written
 pub written_back : (xs ys : List ℕ) (n : ℕ) → length ys ≡ n → take n (ys ++ drop (length ys) xs) ≡ ys
@@ -275,4 +242,4 @@ written_back xs ys n e = take_at ys (drop (length ys) xs) n e
 
 -- the order of a track
 pub order_there : (m : PlainMovie) (t : ℕ) (os : List SyncOrder) (x : SyncOrder) → AreTheOrders m os → t < length os → x ≡ get_or os t x → IsOrder m t x
-order_there m t os x h lt e = subst (λ (o : SyncOrder). IsOrder m t o) (sym (e ∙ other_default os t x Each lt)) (h.each t lt)
+order_there m t os x h lt e = subst (λ (o : SyncOrder). IsOrder m t o) (sym (e ∙ other_default os t x (ByNumber 0) lt)) (h.each t lt)

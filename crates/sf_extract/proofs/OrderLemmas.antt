@@ -94,6 +94,15 @@ parts_high order us low mid high r h le lt is = record {
   from = λ i il ih. (let up = (r mid i il ih).shown in omega (arith, ints, up, is));
 }
 
+-- those before a place are shown before the time of the one there, where the one before it is
+pub split_at : (order : List Sync) (us : ℤ) (k : ℕ) → Rises order → 0 < k → k < length order → us ≤ℤ (nth order k).shown_us → (nth order (k - 1)).shown_us <ℤ us → IsSplit order us k
+split_at order us k r some lt at before = record {
+  between = omega arith;
+  within = omega (arith, lt);
+  before = λ i il. (let up = (r i (k - 1) (omega (arith, il)) (omega (arith, lt, some))).shown in omega (arith, ints, up, before));
+  from = λ i le il. (let up = (r k i le il).shown in omega (arith, ints, up, at));
+}
+
 -- one of two keys isn't after the other
 pub upto_by : (a b : ℤ) (m n : ℕ) → is_less (ordering_then (int_cmp b a) (nat_cmp n m)) ≡ false → (a ≤ℤ b) × (n < m → a <ℤ b)
 upto_by a b m n h = (grind (arith, ints, h), λ lt. grind (arith, ints, h, lt))

@@ -1,8 +1,8 @@
 //! The sync samples of each track, in the order in which they're shown, so that a seek looks at few of them.
 
-ghost use Rattle.std.specs.Prelude.{◌≡◌, ◌+◌, ◌≤◌, ◌<◌, length, map, slice_get, true, IfOk};
-ghost use Rattle.sf_movie.specs.Loaded.{sample_count};
-ghost use Rattle.sf_extract.specs.inner.Orders.{AreTheOrders, EachRises, IsOrder, Sorts, nth, numbers_from, ordered, sync_of, time_at};
+ghost use Rattle.std.specs.Prelude.{◌≡◌, ◌+◌, ◌≤◌, ◌<◌, length, map, get_or, true, IfOk};
+ghost use Rattle.sf_movie.specs.Loaded.{sync_samples};
+ghost use Rattle.sf_extract.specs.inner.Orders.{AreTheOrders, IsOrder, Sorts, SyncsRise, nth, ordered, sync_of, time_at};
 
 use crate::types::Sync;
 use sf_list::Items;
@@ -13,8 +13,8 @@ use std::alloc::{AllocError, Global};
 /// at once.
 #[derive(Drop)]
 pub(crate) enum SyncOrder {
-    /// Each sample is one, and they're shown in the order of their numbers.
-    Each,
+    /// They're shown in the order of their numbers, so many of them: those that the movie tells.
+    ByNumber(u64),
     /// Those of these numbers.
     Listed(Items<u64>),
 }
@@ -43,32 +43,46 @@ fn sync_of(movie: &Movie, t: u32, i: u64) -> Sync
     }
 }
 
-// Whether each sample of a track is a sync sample, and none is shown before an earlier one.
-fn each_rises(movie: &Movie, t: u32) -> bool
-    requires { t < length movie.now.movie.tracks }
-    ensures { result ≡ true → EachRises movie.now.movie t (sample_count movie.now.movie t) }
+// The sync sample of a track at a place among them, by their numbers.
+#[tactic(auto, using(crate::proofs::NumberLemmas::time_is))]
+fn sync_there(movie: &Movie, t: u32, k: u64) -> Sync
+    requires track { t < length movie.now.movie.tracks }
+    requires there { k < length (sync_samples movie.now.movie t) }
+    ensures { result ≡ sync_of movie.now.movie t (get_or (sync_samples movie.now.movie t) k 0) }
+{
+    let sample = movie.sync_number(t, k);
+    Sync {
+        sample,
+        shown_us: movie.shown(t, sample),
+    }
+}
+
+// Whether the sync samples of a track, so many, are shown in the order of their numbers.
+fn syncs_rise(movie: &Movie, t: u32, count: u64) -> bool
+    requires track { t < length movie.now.movie.tracks }
+    requires count { count ≡ length (sync_samples movie.now.movie t) }
+    ensures { result ≡ true → SyncsRise movie.now.movie t count }
 {
     let mut last = i64::MIN;
-    for i in 0..movie.count(t) {
-        let shown_us = time_of(movie, t, i);
-        if !movie.sample(t, i).sync || shown_us < last {
+    for k in 0..count {
+        let sync = sync_there(movie, t, k);
+        if sync.shown_us < last {
             return false;
         }
-        last = shown_us;
+        last = sync.shown_us;
     }
     true
 }
 
-// The numbers of the sync samples of a track.
-fn sync_numbers(alloc: Global, movie: &Movie, t: u32) -> Result<Vec<u64>, AllocError>
-    requires { t < length movie.now.movie.tracks }
-    ensures { IfOk result (λ v. v.items ≡ numbers_from (slice_get movie.now.movie.tracks t) 0) }
+// The numbers of the sync samples of a track, so many.
+fn sync_numbers(alloc: Global, movie: &Movie, t: u32, count: u64) -> Result<Vec<u64>, AllocError>
+    requires track { t < length movie.now.movie.tracks }
+    requires count { count ≡ length (sync_samples movie.now.movie t) }
+    ensures { IfOk result (λ v. v.items ≡ sync_samples movie.now.movie t) }
 {
-    let mut numbers = Vec::new(alloc);
-    for i in 0..movie.count(t) {
-        if movie.sample(t, i).sync {
-            numbers.push(i)?;
-        }
+    let mut numbers = Vec::with_capacity(alloc, count as usize)?;
+    for k in 0..count {
+        numbers.push(movie.sync_number(t, k))?;
     }
     Ok(numbers)
 }
@@ -85,16 +99,16 @@ fn put_in_order(movie: &Movie, t: u32, numbers: &mut [u64])
     );
 }
 
-// The sync samples of a track in order. Nothing is kept of those of a track of which each sample is one, where
-// they're shown in the order of their numbers.
+// The sync samples of a track in order. Nothing is kept of those that are shown in the order of their numbers.
 fn order_of(alloc: Global, movie: &Movie, t: u32) -> Result<SyncOrder, AllocError>
     requires { t < length movie.now.movie.tracks }
     ensures { IfOk result (λ o. IsOrder movie.now.movie t o) }
 {
-    if each_rises(movie, t) {
-        return Ok(SyncOrder::Each);
+    let count = movie.sync_count(t);
+    if syncs_rise(movie, t, count) {
+        return Ok(SyncOrder::ByNumber(count));
     }
-    let mut numbers = sync_numbers(alloc, movie, t)?;
+    let mut numbers = sync_numbers(alloc, movie, t, count)?;
     put_in_order(movie, t, &mut numbers);
     Ok(SyncOrder::Listed(Items::from_vec(numbers)))
 }
@@ -117,19 +131,20 @@ pub(crate) fn order_len(movie: &Movie, t: u32, order: &SyncOrder) -> u64
     ensures { result ≡ length (ordered movie.now.movie t order.now) }
 {
     match order {
-        SyncOrder::Each => movie.count(t),
+        SyncOrder::ByNumber(count) => *count,
         SyncOrder::Listed(numbers) => numbers.len() as u64,
     }
 }
 
 /// The sync sample at a place of their order.
 pub(crate) fn order_at(movie: &Movie, t: u32, order: &SyncOrder, k: u64) -> Sync
+    requires track { t < length movie.now.movie.tracks }
     requires order { IsOrder movie.now.movie t order.now }
     requires there { k < length (ordered movie.now.movie t order.now) }
     ensures { result ≡ nth (ordered movie.now.movie t order.now) k }
 {
     match order {
-        SyncOrder::Each => sync_of(movie, t, k),
+        SyncOrder::ByNumber(_) => sync_there(movie, t, k),
         SyncOrder::Listed(numbers) => sync_of(movie, t, numbers.as_slice()[k as usize]),
     }
 }

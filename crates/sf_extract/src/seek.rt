@@ -81,6 +81,23 @@ fn earliest_from(movie: &Movie, t: u32, order: &SyncOrder, us: i64, before: u64)
     Some(order_at(movie, t, order, before))
 }
 
+// How many are shown before the time of the one at a place: mostly those before it in order, else found by halving.
+fn shown_before_one(movie: &Movie, t: u32, order: &SyncOrder, k: u64, us: i64) -> u64
+    requires track { t < length movie.now.movie.tracks }
+    requires order { IsOrder movie.now.movie t order.now }
+    requires there { k < length (ordered movie.now.movie t order.now) }
+    requires time { (nth (ordered movie.now.movie t order.now) k).shown_us ≡ us }
+    ensures { IsSplit (ordered movie.now.movie t order.now) us result }
+{
+    if k > 0 {
+        let earlier = order_at(movie, t, order, k - 1);
+        if earlier.shown_us < us {
+            return k;
+        }
+    }
+    shown_before(movie, t, order, us)
+}
+
 // The first one of those that are shown last before a time, of which so many are shown before it.
 fn last_before(movie: &Movie, t: u32, order: &SyncOrder, us: i64, before: u64) -> Sync
     requires track { t < length movie.now.movie.tracks }
@@ -91,7 +108,7 @@ fn last_before(movie: &Movie, t: u32, order: &SyncOrder, us: i64, before: u64) -
     ensures { Finds (λ s other. is_earlier other s) (λ s. int_le s.shown_us us) (syncs_of movie.now.movie (slice_get movie.now.movie.tracks t)) (Some result) }
 {
     let last = order_at(movie, t, order, before - 1);
-    let first = shown_before(movie, t, order, last.shown_us);
+    let first = shown_before_one(movie, t, order, before - 1, last.shown_us);
     order_at(movie, t, order, first)
 }
 

@@ -1,15 +1,13 @@
 -- In which order the sync samples of a track are kept for seeks, and what is found in it.
-use Rattle.std.specs.Prelude.{◌≡◌, ℕ, ◌+◌, ◌≤◌, ◌<◌, ℤ, pos, ◌≤ℤ◌, ◌<ℤ◌, Bool, true, false, List, [], ◌∷◌, length, map, drop, get_or, unwrap_or, Option, Some, None, if◌then◌else◌}
+use Rattle.std.specs.Prelude.{◌≡◌, ℕ, ◌+◌, ◌≤◌, ◌<◌, ℤ, pos, ◌≤ℤ◌, ◌<ℤ◌, Bool, true, false, List, [], ◌∷◌, length, map, get_or, unwrap_or, Option, Some, None}
 use Rattle.std.specs.List.{Contains, slice_get}
 use Rattle.std.specs.List.Sorted.{IsPermutation}
 use Rattle.sf_meaning.specs.Shown.{shown}
 use Rattle.sf_meaning.specs.declared.movie.PlainMovie.{PlainMovie}
-use Rattle.sf_meaning.specs.declared.movie.PlainSample.{PlainSample}
-use Rattle.sf_meaning.specs.declared.movie.PlainTrack.{PlainTrack}
-use Rattle.sf_movie.specs.Loaded.{sample_count, sample_of}
+use Rattle.sf_movie.specs.Loaded.{sync_samples}
 use Rattle.sf_extract.specs.SyncAt.{better_of, is_nearer, syncs_of}
 use Rattle.sf_extract.specs.declared.order.SyncOrder.{SyncOrder}
-use Rattle.sf_extract.specs.declared.order.SyncOrder.TheVariants.{Each, Listed}
+use Rattle.sf_extract.specs.declared.order.SyncOrder.TheVariants.{ByNumber, Listed}
 use Rattle.sf_extract.specs.declared.types.Sync.{Sync}
 
 -- the sync sample at a place of a list
@@ -81,48 +79,37 @@ time_at m t i = unwrap_or (shown m t i) (pos 0)
 abbrev pub sync_of : PlainMovie → ℕ → ℕ → Sync
 sync_of m t i = record { sample = i; shown_us = time_at m t i }
 
--- the numbers of the sync samples among samples that are numbered from one on
-abbrev pub numbers_in : ℕ → List PlainSample → List ℕ
-numbers_in i [] = []
-numbers_in i (s ∷ ss) = if s.sync then i ∷ numbers_in (i + 1) ss else numbers_in (i + 1) ss
-
--- those of the sync samples of a track from a number on
-abbrev pub numbers_from : Option PlainTrack → ℕ → List ℕ
-numbers_from None i = []
-numbers_from (Some track) i = numbers_in i (drop i track.samples)
-
--- Each sample of a track before a number is a sync sample, and none is shown before an earlier one.
-pub record EachRises (m : PlainMovie) (t n : ℕ) : Type 0 where
-  pub sync : (i : ℕ) (s : PlainSample) → i < n → sample_of m t i ≡ Some s → s.sync ≡ true
-  pub rises : (i j : ℕ) → i ≤ j → j < n → time_at m t i ≤ℤ time_at m t j
+-- Of the sync samples of a track the first ones, so many, are shown in the order of their numbers.
+pub record SyncsRise (m : PlainMovie) (t n : ℕ) : Type 0 where
+  pub rises : (i j : ℕ) → i ≤ j → j < n → time_at m t (get_or (sync_samples m t) i 0) ≤ℤ time_at m t (get_or (sync_samples m t) j 0)
 
 -- the sync samples of a track, in the order in which they're kept
 abbrev pub ordered : PlainMovie → ℕ → SyncOrder → List Sync
-ordered m t Each = syncs_of m (slice_get m.tracks t)
+ordered m t (ByNumber count) = syncs_of m (slice_get m.tracks t)
 ordered m t (Listed numbers) = map (sync_of m t) numbers
 
 -- how many there are
-abbrev pub kept_count : PlainMovie → ℕ → SyncOrder → ℕ
-kept_count m t Each = sample_count m t
-kept_count m t (Listed numbers) = length numbers
+abbrev pub kept_count : SyncOrder → ℕ
+kept_count (ByNumber count) = count
+kept_count (Listed numbers) = length numbers
 
 -- the number of the one at a place
-abbrev pub kept_number : SyncOrder → ℕ → ℕ
-kept_number Each k = k
-kept_number (Listed numbers) k = get_or numbers k 0
+abbrev pub kept_number : PlainMovie → ℕ → SyncOrder → ℕ → ℕ
+kept_number m t (ByNumber count) k = get_or (sync_samples m t) k 0
+kept_number m t (Listed numbers) k = get_or numbers k 0
 
 -- The sync samples of a track are kept in order, each found by its place.
 pub record IsOrder (m : PlainMovie) (t : ℕ) (o : SyncOrder) : Type 0 where
   pub in_order : InOrder (syncs_of m (slice_get m.tracks t)) (ordered m t o)
-  pub count : length (ordered m t o) ≡ kept_count m t o
-  pub at : (k : ℕ) → k < length (ordered m t o) → nth (ordered m t o) k ≡ sync_of m t (kept_number o k)
+  pub count : length (ordered m t o) ≡ kept_count o
+  pub at : (k : ℕ) → k < length (ordered m t o) → nth (ordered m t o) k ≡ sync_of m t (kept_number m t o k)
 
 -- The sync samples of each of so many tracks of a movie are kept in order.
 pub record AreOrders (m : PlainMovie) (n : ℕ) (os : List SyncOrder) : Type 0 where
   pub count : length os ≡ n
-  pub each : (t : ℕ) → t < length os → IsOrder m t (get_or os t Each)
+  pub each : (t : ℕ) → t < length os → IsOrder m t (get_or os t (ByNumber 0))
 
 -- Those of each track are.
 pub record AreTheOrders (m : PlainMovie) (os : List SyncOrder) : Type 0 where
   pub count : length os ≡ length m.tracks
-  pub each : (t : ℕ) → t < length os → IsOrder m t (get_or os t Each)
+  pub each : (t : ℕ) → t < length os → IsOrder m t (get_or os t (ByNumber 0))

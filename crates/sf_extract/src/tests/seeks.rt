@@ -127,6 +127,21 @@ fn a_tie_goes_to_the_lower_number(rt: HostRuntime) -> Result<(), Fail> {
     Ok(())
 }
 
+// The second and the fourth sample are sync, and a ninth would be. They're shown at 10 and 30 ms.
+#[test]
+fn a_sync_number_past_the_samples_is_passed_over(rt: HostRuntime) -> Result<(), Fail> {
+    let tables = b"\0\0\0\x1cstss\0\0\0\0\0\0\0\x03\0\0\0\x02\0\0\0\x04\0\0\0\x09";
+    let seeks = [
+        (Mode::Previous, 0, Some(33)),
+        (Mode::Previous, 90_000, Some(35)),
+        (Mode::Next, 10_001, Some(35)),
+        (Mode::Next, 30_001, None),
+        (Mode::Closest, 20_001, Some(35)),
+    ];
+    assert_eq!(rt; first_astray(rt.alloc(), tables, &seeks)?, None);
+    Ok(())
+}
+
 #[test]
 fn without_a_sync_sample_each_seek_leads_to_the_end(rt: HostRuntime) -> Result<(), Fail> {
     let tables = b"\0\0\0\x10stss\0\0\0\0\0\0\0\0";

@@ -1,9 +1,9 @@
 use Rattle.std.proofs.Common.{◌≡◌, length, arith, sym, ap}
-use Rattle.sf_extract.proofs.NumberLemmas.{each_order, listed_order, written_back}
+use Rattle.sf_extract.proofs.NumberLemmas.{listed_order, number_order, written_back}
 use Rattle.sf_extract.proofs.order.order_of.Goals as goal
 
-pub returns-then-each_rises : goal.returns-then-each_rises
-returns-then-each_rises c = each_order c.args.movie.now.movie c.args.t (c.each_rises.ensures c.if-each_rises.true)
+pub returns-then-syncs_rise : goal.returns-then-syncs_rise
+returns-then-syncs_rise c = number_order c.args.movie.now.movie c.args.t c.sync_count-count.result c.sync_count-count.ensures (c.syncs_rise.ensures c.if-syncs_rise.true)
 
 pub returns : goal.returns
 returns c =
