@@ -26,11 +26,12 @@ sample_count m t = count_of (slice_get m.tracks t)
 abbrev pub sample_of : PlainMovie → ℕ → ℕ → Option PlainSample
 sample_of m t i = option_and_then (λ track. slice_get track.samples i) (slice_get m.tracks t)
 
+-- the numbers of the sync samples of a track, from 0, where there is one
 abbrev pub sync_samples_of : Option PlainTrack → List ℕ
 sync_samples_of None = []
 sync_samples_of (Some track) = numbers_in 0 track.samples
 
--- the numbers of the sync samples of track t, from 0
+-- those of track t
 abbrev pub sync_samples : PlainMovie → ℕ → List ℕ
 sync_samples m t = sync_samples_of (slice_get m.tracks t)
 
