@@ -138,11 +138,7 @@ fn put_limit<T: Sink>(alloc: Global, text: &mut T, limit: &LimitShown) -> Result
 }
 
 /// Puts the line of an answer other than `Done` into a text. Those without a number take no memory.
-pub(crate) fn put_answer<T: Sink>(
-    alloc: Global,
-    text: &mut T,
-    status: &Status,
-) -> Result<(), Denied>
+pub fn put_answer<T: Sink>(alloc: Global, text: &mut T, status: &Status) -> Result<(), Denied>
     ensures { Puts (line_of status.now) result (T.seen text.old) (T.seen text.new) }
 {
     match status {

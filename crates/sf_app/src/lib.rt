@@ -16,6 +16,7 @@ mod program;
 mod record;
 mod status;
 
+pub use answer_text::put_answer;
 pub use movie::{ListFault, list_movie};
 pub use program::run;
 pub use sf_coded::CodedFault;
@@ -25,6 +26,3 @@ pub use sf_meaning::MovieFault;
 pub use sf_record::{InputFault, TrackFault};
 pub use sf_series::LimitShown;
 pub use status::{Status, UsageFault};
-
-#[cfg(test)]
-mod tests;

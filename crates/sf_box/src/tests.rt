@@ -1,5 +1,5 @@
 use super::*;
-use sf_list::Bytes;
+use sf_list::{Bytes, holds, same};
 use std::alloc::Global;
 use std::test::Fail;
 
@@ -11,10 +11,10 @@ fn numbers_stand_highest_byte_first(rt: HostRuntime) -> Result<(), Fail> {
     put_u64(&mut out, 0x0708_090A_0B0C_0D0E)?;
     put_bytes(&mut out, &[15, 16])?;
     let wanted = [1, 2, 3, 4, 5, 6, 7, 8, 9, 10, 11, 12, 13, 14, 15, 16];
-    assert_eq!(rt; out.as_slice(), wanted.as_slice());
-    assert_eq!(rt; read_u16(&wanted, 14), 0x0F10);
-    assert_eq!(rt; read_u32(&wanted, 2), 0x0304_0506);
-    assert_eq!(rt; read_u64(&wanted, 6), 0x0708_090A_0B0C_0D0E);
+    same(out.as_slice(), wanted.as_slice())?;
+    same(read_u16(&wanted, 14), 0x0F10)?;
+    same(read_u32(&wanted, 2), 0x0304_0506)?;
+    same(read_u64(&wanted, 6), 0x0708_090A_0B0C_0D0E)?;
     Ok(())
 }
 
@@ -23,11 +23,11 @@ fn a_box_is_written_at_once_and_in_parts(rt: HostRuntime) -> Result<(), Fail> {
     let mut out = Bytes::from_slice(rt.alloc(), b"in front")?;
     put_box(&mut out, FourCc(*b"free"), b"abc")?;
     let mark = begin_box(&mut out, FourCc(*b"udta"))?;
-    assert_eq!(rt; mark, 19);
+    same(mark, 19)?;
     put_box(&mut out, FourCc(*b"sfts"), &[])?;
     end_box(&mut out, mark);
     let wanted = b"in front\x00\x00\x00\x0bfreeabc\x00\x00\x00\x10udta\x00\x00\x00\x08sfts";
-    assert_eq!(rt; out.as_slice(), wanted.as_slice());
+    same(out.as_slice(), wanted.as_slice())?;
     Ok(())
 }
 
@@ -68,16 +68,16 @@ fn children_refuse_the_first_box_that_is_not_whole(rt: HostRuntime) -> Result<()
     let alloc = rt.alloc();
     let short = ChildrenFault::Short { at: 100 };
     let over = |size: u64| ChildrenFault::Overrun { at: 100, size };
-    assert!(rt; at_100(alloc, b"").is_ok());
-    assert!(rt; fails(alloc, b"\x00", short));
-    assert!(rt; fails(alloc, b"\x00\x00\x00", short));
-    assert!(rt; fails(alloc, b"\x00\x00\x00\x08", short));
-    assert!(rt; fails(alloc, b"\x00\x00\x00\x08fre", short));
-    assert!(rt; fails(alloc, b"\x00\x00\x00\x07free", over(7)));
-    assert!(rt; only(alloc, b"\x00\x00\x00\x08free", 8, 8));
-    assert!(rt; fails(alloc, b"\x00\x00\x00\x09free", over(9)));
-    assert!(rt; only(alloc, b"\x00\x00\x00\x09freex", 8, 9));
-    assert!(rt; fails(alloc, b"\x00\x00\x00\x00free", over(0)));
+    holds(at_100(alloc, b"").is_ok())?;
+    holds(fails(alloc, b"\x00", short))?;
+    holds(fails(alloc, b"\x00\x00\x00", short))?;
+    holds(fails(alloc, b"\x00\x00\x00\x08", short))?;
+    holds(fails(alloc, b"\x00\x00\x00\x08fre", short))?;
+    holds(fails(alloc, b"\x00\x00\x00\x07free", over(7)))?;
+    holds(only(alloc, b"\x00\x00\x00\x08free", 8, 8))?;
+    holds(fails(alloc, b"\x00\x00\x00\x09free", over(9)))?;
+    holds(only(alloc, b"\x00\x00\x00\x09freex", 8, 9))?;
+    holds(fails(alloc, b"\x00\x00\x00\x00free", over(0)))?;
     Ok(())
 }
 
@@ -86,57 +86,43 @@ fn children_take_sizes_in_eight_bytes(rt: HostRuntime) -> Result<(), Fail> {
     let alloc = rt.alloc();
     let short = ChildrenFault::Short { at: 100 };
     let over = |size: u64| ChildrenFault::Overrun { at: 100, size };
-    assert!(rt; fails(alloc, b"\x00\x00\x00\x01free", short));
-    assert!(rt;
-        fails(
-            alloc,
-            b"\x00\x00\x00\x01free\x00\x00\x00\x00\x00\x00\x00",
-            short
-        )
-    );
-    assert!(rt;
-        fails(
-            alloc,
-            b"\x00\x00\x00\x01free\x00\x00\x00\x00\x00\x00\x00\x00",
-            over(0)
-        )
-    );
-    assert!(rt;
-        fails(
-            alloc,
-            b"\x00\x00\x00\x01free\x00\x00\x00\x00\x00\x00\x00\x0f",
-            over(15)
-        )
-    );
-    assert!(rt;
-        only(
-            alloc,
-            b"\x00\x00\x00\x01free\x00\x00\x00\x00\x00\x00\x00\x10",
-            16,
-            16
-        )
-    );
-    assert!(rt;
-        fails(
-            alloc,
-            b"\x00\x00\x00\x01free\x00\x00\x00\x00\x00\x00\x00\x11",
-            over(17)
-        )
-    );
-    assert!(rt;
-        fails(
-            alloc,
-            b"\x00\x00\x00\x01free\x80\x00\x00\x00\x00\x00\x00\x00",
-            over(1 << 63)
-        )
-    );
-    assert!(rt;
-        fails(
-            alloc,
-            b"\x00\x00\x00\x01free\xff\xff\xff\xff\xff\xff\xff\xff",
-            over(u64::MAX)
-        )
-    );
+    holds(fails(alloc, b"\x00\x00\x00\x01free", short))?;
+    holds(fails(
+        alloc,
+        b"\x00\x00\x00\x01free\x00\x00\x00\x00\x00\x00\x00",
+        short,
+    ))?;
+    holds(fails(
+        alloc,
+        b"\x00\x00\x00\x01free\x00\x00\x00\x00\x00\x00\x00\x00",
+        over(0),
+    ))?;
+    holds(fails(
+        alloc,
+        b"\x00\x00\x00\x01free\x00\x00\x00\x00\x00\x00\x00\x0f",
+        over(15),
+    ))?;
+    holds(only(
+        alloc,
+        b"\x00\x00\x00\x01free\x00\x00\x00\x00\x00\x00\x00\x10",
+        16,
+        16,
+    ))?;
+    holds(fails(
+        alloc,
+        b"\x00\x00\x00\x01free\x00\x00\x00\x00\x00\x00\x00\x11",
+        over(17),
+    ))?;
+    holds(fails(
+        alloc,
+        b"\x00\x00\x00\x01free\x80\x00\x00\x00\x00\x00\x00\x00",
+        over(1 << 63),
+    ))?;
+    holds(fails(
+        alloc,
+        b"\x00\x00\x00\x01free\xff\xff\xff\xff\xff\xff\xff\xff",
+        over(u64::MAX),
+    ))?;
     Ok(())
 }
 
@@ -150,26 +136,26 @@ fn a_head_at_the_top_may_reach_to_the_end(rt: HostRuntime) -> Result<(), Fail> {
         size,
     };
     let open = b"\x00\x00\x00\x00mdat01234567";
-    assert_eq!(rt;
+    same(
         read_head(open, 24, 1 << 40, true),
-        Ok(mdat(8, (1 << 40) - 24))
-    );
-    assert_eq!(rt;
+        Ok(mdat(8, (1 << 40) - 24)),
+    )?;
+    same(
         read_head(open, 24, 1 << 40, false),
-        Err(BoxFault::Overrun { at: 24, size: 0 })
-    );
-    assert_eq!(rt; read_head(&open[..8], 24, 32, true), Ok(mdat(8, 8)));
-    assert_eq!(rt;
+        Err(BoxFault::Overrun { at: 24, size: 0 }),
+    )?;
+    same(read_head(&open[..8], 24, 32, true), Ok(mdat(8, 8)))?;
+    same(
         read_head(wide, 24, 24 + (1 << 32), true),
-        Ok(mdat(16, 1 << 32))
-    );
-    assert_eq!(rt;
+        Ok(mdat(16, 1 << 32)),
+    )?;
+    same(
         read_head(wide, 24, 23 + (1 << 32), true),
         Err(BoxFault::Overrun {
             at: 24,
-            size: 1 << 32
-        })
-    );
+            size: 1 << 32,
+        }),
+    )?;
     Ok(())
 }
 
@@ -178,15 +164,15 @@ fn boxes_are_found_and_lent(rt: HostRuntime) -> Result<(), Fail> {
     let bytes =
         b"\x00\x00\x00\x0bfreeabc\x00\x00\x00\x0afreexy\x00\x00\x00\x08skip\x00\x00\x00\x09";
     let alloc = rt.alloc();
-    assert!(rt; fails(alloc, bytes, ChildrenFault::Short { at: 129 }));
+    holds(fails(alloc, bytes, ChildrenFault::Short { at: 129 }))?;
     let heads = leading(alloc, bytes, 100)?;
-    assert_eq!(rt; heads.len(), 3);
-    assert_eq!(rt; first_head(heads.as_slice(), FourCc(*b"moov")), None);
+    same(heads.len(), 3)?;
+    same(first_head(heads.as_slice(), FourCc(*b"moov")), None)?;
     let found = first_head(heads.as_slice(), FourCc(*b"free"));
-    assert!(rt; found.is_some());
+    holds(found.is_some())?;
     if let Some(head) = found {
-        assert_eq!(rt; head.at, 100);
-        assert_eq!(rt; body(bytes, 100, head), b"abc".as_slice());
+        same(head.at, 100)?;
+        same(body(bytes, 100, head), b"abc".as_slice())?;
     }
     Ok(())
 }

@@ -10,19 +10,41 @@ mod faults;
 mod large;
 mod samples;
 
-/// The body of a sample table box: boxes one after the other, each of a type and of parts of its body.
-fn boxes(alloc: Global, all: &[(FourCc, &[u8], &[u8])]) -> Result<Bytes, AllocError> {
-    let mut out = Bytes::new(alloc);
-    for (kind, front, rest) in all {
-        let mut body = Bytes::new(alloc);
-        body.append(front)?;
-        body.append(rest)?;
-        if body.len() > 100_000 {
-            return Err(AllocError);
-        }
-        put_box(&mut out, *kind, body.as_slice())?;
+/// Puts a box of a type with these fields and this table after those of a sample table box.
+fn put_with(
+    alloc: Global,
+    stbl: &mut Bytes,
+    kind: FourCc,
+    fields: &[u8],
+    table: &[u8],
+) -> Result<(), AllocError> {
+    let mut body = Bytes::from_slice(alloc, fields)?;
+    body.append(table)?;
+    if body.len() > 100_000 {
+        return Err(AllocError);
     }
-    Ok(out)
+    put_box(stbl, kind, body.as_slice())
+}
+
+/// Puts a box of version 0.
+fn put(alloc: Global, stbl: &mut Bytes, kind: FourCc, table: &[u8]) -> Result<(), AllocError> {
+    put_with(alloc, stbl, kind, b"\0\0\0\0", table)
+}
+
+/// The body of a sample table box with four boxes.
+fn four(
+    alloc: Global,
+    times: &[u8],
+    sizes: &[u8],
+    spread: &[u8],
+    places: &[u8],
+) -> Result<Bytes, AllocError> {
+    let mut stbl = Bytes::new(alloc);
+    put(alloc, &mut stbl, STTS, times)?;
+    put(alloc, &mut stbl, STSZ, sizes)?;
+    put(alloc, &mut stbl, STSC, spread)?;
+    put(alloc, &mut stbl, STCO, places)?;
+    Ok(stbl)
 }
 
 const STTS: FourCc = FourCc(*b"stts");
@@ -37,9 +59,6 @@ const STCO: FourCc = FourCc(*b"stco");
 
 const STSS: FourCc = FourCc(*b"stss");
 
-/// A version and flags.
-const FIELDS: &[u8] = b"\0\0\0\0";
-
 /// Three samples, 1024 ticks apart.
 const TIMES: &[u8] = b"\0\0\0\x01\0\0\0\x03\0\0\x04\0";
 
@@ -52,21 +71,17 @@ const SIZES: &[u8] = b"\0\0\0\0\0\0\0\x03\0\0\0\x0a\0\0\0\x14\0\0\0\x1e";
 /// Chunks at 100 and at 200.
 const PLACES: &[u8] = b"\0\0\0\x02\0\0\0\x64\0\0\0\xc8";
 
-/// What a box is read as, of a track with 48000 ticks a second and two sample entries.
-fn read(
-    alloc: Global,
-    tables: &[(FourCc, &[u8], &[u8])],
-) -> Result<Result<Cursor, TableFault>, AllocError> {
-    let stbl = boxes(alloc, tables)?;
+/// What the body of a sample table box is read as, of a track with 48000 ticks a second and two sample entries.
+fn read(alloc: Global, stbl: &Bytes) -> Result<Result<Cursor, TableFault>, AllocError> {
     if stbl.len() > 1_000_000 {
         return Err(AllocError);
     }
     Ok(Cursor::read(alloc, stbl.as_slice(), 1000, 48000, 2))
 }
 
-/// A cursor over such tables.
-fn cursor_of(rt: HostRuntime, tables: &[(FourCc, &[u8], &[u8])]) -> Result<Cursor, Fail> {
-    Ok(read(rt.alloc(), tables)?.ok().ok_or("refused")?)
+/// A cursor over such a box.
+fn cursor_of(alloc: Global, stbl: &Bytes) -> Result<Cursor, Fail> {
+    Ok(read(alloc, stbl)?.ok().ok_or("refused")?)
 }
 
 /// Whether a file of so many bytes holds a cursor's samples, and those of these numbers are these.

@@ -25,6 +25,3 @@ pub use plan_word::read_plan;
 pub use sf_avc::LengthFault;
 pub use sf_movie::Movie;
 pub use types::{BadSample, GiveFault, Mode, NoTrack, Place, Standing, Sync, Turn};
-
-#[cfg(test)]
-mod tests;

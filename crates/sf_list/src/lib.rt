@@ -5,9 +5,11 @@
 //! since two of them are equal where their contents are, whatever their capacities.
 #![tactic(auto)]
 
+mod checks;
 mod items;
 mod text;
 
+pub use checks::{holds, same};
 pub use items::{Bytes, Items};
 pub use text::Text;
 

@@ -102,7 +102,8 @@ fn make_file(rt: &HostRuntime, inputs: &OpenedFiles, name: &str) -> io::Result<F
     if inputs.has(&about) {
         return Err(io::Error::from(ErrorKind::AlreadyExists));
     }
-    if about.is_file() {
+    // A file that was cut is flushed to the disk when it is closed, by some file systems: an empty one isn't.
+    if about.is_file() && about.len() > 0 {
         file.set_len(0)?;
     }
     Ok(file)

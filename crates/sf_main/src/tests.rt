@@ -7,6 +7,7 @@ use super::folder_shelf::FolderShelf;
 use super::opened_files::OpenedFiles;
 use super::std_text::StdText;
 use super::whole_writes::{write, write_at};
+use sf_list::{holds, same};
 use sf_world::{Denied, Failed, Inputs, Shelf, Sink, Source};
 use std::cell::Cell;
 use std::io::{Error, ErrorKind, Write};
@@ -31,7 +32,7 @@ fn a_file_is_read_at_places(rt: HostRuntime) -> Result<(), Fail> {
     let Ok(mut source) = inputs.fetch(path.as_str()) else {
         return Err(Fail::from(Failed));
     };
-    assert_eq!(rt; source.length(), 6);
+    same(source.length(), 6)?;
     for (at, count, bytes) in [
         (0, 4, *b"abcd"),
         (3, 3, *b"def\0"),
@@ -39,14 +40,14 @@ fn a_file_is_read_at_places(rt: HostRuntime) -> Result<(), Fail> {
         (7, 0, [0; 4]),
     ] {
         let mut into = [0; 4];
-        assert_eq!(rt; source.read_at(at, &mut into), Ok(count), "at {at}");
-        assert_eq!(rt; into, bytes, "at {at}");
+        same((at, source.read_at(at, &mut into)), (at, Ok(count)))?;
+        same((at, into), (at, bytes))?;
     }
     // The file is cut behind the source's back, so what it had isn't there any more.
     fs::write(&rt, path.as_str(), "abc")?;
     let mut into = [0; 4];
-    assert_eq!(rt; source.read_at(1, &mut into), Err(Failed));
-    assert_eq!(rt; source.read_at(0, &mut into[..3]), Ok(3));
+    same(source.read_at(1, &mut into), Err(Failed))?;
+    same(source.read_at(0, &mut into[..3]), Ok(3))?;
     inputs.give_back(source);
     fs::remove_file(&rt, path.as_str())?;
     Ok(())
@@ -57,7 +58,7 @@ fn a_missing_file_is_a_failure(rt: HostRuntime) -> Result<(), Fail> {
     let path = temporary(&rt, "missing")?;
     let opened = OpenedFiles::new(rt.alloc());
     let mut inputs = FileInputs::new(rt.alloc(), &rt, &opened);
-    assert!(rt; matches!(inputs.fetch(path.as_str()), Err(Denied::Failed)));
+    holds(matches!(inputs.fetch(path.as_str()), Err(Denied::Failed)))?;
     Ok(())
 }
 
@@ -70,15 +71,15 @@ fn a_file_is_made_appended_and_patched(rt: HostRuntime) -> Result<(), Fail> {
     let Ok(mut sink) = shelf.create(path.as_str()) else {
         return Err(Fail::from(Failed));
     };
-    assert_eq!(rt; sink.append(b""), Ok(()));
-    assert_eq!(rt; sink.append(b"ftyp"), Ok(()));
-    assert_eq!(rt; sink.append(b"mdat"), Ok(()));
-    assert_eq!(rt; sink.patch(2, b"yyym"), Ok(()));
+    same(sink.append(b""), Ok(()))?;
+    same(sink.append(b"ftyp"), Ok(()))?;
+    same(sink.append(b"mdat"), Ok(()))?;
+    same(sink.patch(2, b"yyym"), Ok(()))?;
     shelf.keep(sink);
-    assert_eq!(rt;
+    same(
         fs::read(&rt, path.as_str())?.as_slice(),
-        b"ftyyymat".as_slice()
-    );
+        b"ftyyymat".as_slice(),
+    )?;
     fs::remove_file(&rt, path.as_str())?;
     Ok(())
 }
@@ -93,9 +94,9 @@ fn a_full_device_takes_no_bytes(rt: HostRuntime) -> Result<(), Fail> {
     let Ok(mut sink) = shelf.create("/dev/full") else {
         return Err(Fail::from(Failed));
     };
-    assert_eq!(rt; sink.append(b""), Ok(()));
-    assert_eq!(rt; sink.append(b"ftyp"), Err(Denied::Failed));
-    assert_eq!(rt; sink.patch(0, b""), Ok(()));
+    same(sink.append(b""), Ok(()))?;
+    same(sink.append(b"ftyp"), Err(Denied::Failed))?;
+    same(sink.patch(0, b""), Ok(()))?;
     shelf.keep(sink);
     Ok(())
 }
@@ -107,7 +108,7 @@ fn no_file_is_made_inside_a_file(rt: HostRuntime) -> Result<(), Fail> {
     let inside = format!(in rt.alloc(); "{path}/file")?;
     let opened = OpenedFiles::new(rt.alloc());
     let mut shelf = FolderShelf::new(rt.alloc(), &rt, &opened);
-    assert!(rt; matches!(shelf.create(inside.as_str()), Err(Denied::Failed)));
+    holds(matches!(shelf.create(inside.as_str()), Err(Denied::Failed)))?;
     fs::remove_file(&rt, path.as_str())?;
     Ok(())
 }
@@ -115,8 +116,8 @@ fn no_file_is_made_inside_a_file(rt: HostRuntime) -> Result<(), Fail> {
 #[test]
 fn standard_output_takes_bytes_and_no_patch(rt: HostRuntime) -> Result<(), Fail> {
     let mut text = StdText::new(&rt);
-    assert_eq!(rt; text.append(b"done\n"), Ok(()));
-    assert_eq!(rt; text.patch(0, b"D"), Err(Failed));
+    same(text.append(b"done\n"), Ok(()))?;
+    same(text.patch(0, b"D"), Err(Failed))?;
     Ok(())
 }
 
@@ -136,12 +137,12 @@ fn a_file_is_read_after_4_gib(rt: HostRuntime) -> Result<(), Fail> {
     let Ok(mut source) = inputs.fetch(path.as_str()) else {
         return Err(Fail::from(Failed));
     };
-    assert_eq!(rt; source.length(), 5_368_709_124);
+    same(source.length(), 5_368_709_124)?;
     let mut into = [1; 4];
-    assert_eq!(rt; source.read_at(5_368_709_120, &mut into), Ok(4));
-    assert_eq!(rt; into, *b"last");
-    assert_eq!(rt; source.read_at(1_073_741_824, &mut into), Ok(4));
-    assert_eq!(rt; into, [0; 4]);
+    same(source.read_at(5_368_709_120, &mut into), Ok(4))?;
+    same(into, *b"last")?;
+    same(source.read_at(1_073_741_824, &mut into), Ok(4))?;
+    same(into, [0; 4])?;
     inputs.give_back(source);
     fs::remove_file(&rt, path.as_str())?;
     Ok(())
@@ -151,8 +152,8 @@ fn a_file_is_read_after_4_gib(rt: HostRuntime) -> Result<(), Fail> {
 fn a_file_is_written_after_4_gib(rt: HostRuntime) -> Result<(), Fail> {
     let path = temporary(&rt, "far")?;
     let file = fs::create(&rt, path.as_str())?;
-    assert_eq!(rt; write_at(&file, 5_368_709_120, b"last"), 4);
-    assert_eq!(rt; file.metadata()?.len(), 5_368_709_124);
+    same(write_at(&file, 5_368_709_120, b"last"), 4)?;
+    same(file.metadata()?.len(), 5_368_709_124)?;
     fs::remove_file(&rt, path.as_str())?;
     Ok(())
 }
@@ -162,7 +163,10 @@ fn what_is_no_regular_file_is_no_input(rt: HostRuntime) -> Result<(), Fail> {
     let opened = OpenedFiles::new(rt.alloc());
     let mut inputs = FileInputs::new(rt.alloc(), &rt, &opened);
     for name in ["/", "/dev/null"] {
-        assert!(rt; matches!(inputs.fetch(name), Err(Denied::Failed)), "{name}");
+        same(
+            (name, matches!(inputs.fetch(name), Err(Denied::Failed))),
+            (name, true),
+        )?;
     }
     Ok(())
 }
@@ -182,11 +186,14 @@ fn an_input_is_never_made_anew(rt: HostRuntime) -> Result<(), Fail> {
         return Err(Fail::from(Failed));
     };
     for name in [path.as_str(), link.as_str(), hard.as_str()] {
-        assert!(rt; matches!(shelf.create(name), Err(Denied::Failed)), "{name}");
-        assert_eq!(rt;
+        same(
+            (name, matches!(shelf.create(name), Err(Denied::Failed))),
+            (name, true),
+        )?;
+        same(
             fs::read(&rt, path.as_str())?.as_slice(),
-            b"abcdef".as_slice()
-        );
+            b"abcdef".as_slice(),
+        )?;
     }
     inputs.give_back(source);
     for name in [path.as_str(), link.as_str(), hard.as_str()] {
@@ -255,17 +262,16 @@ impl Write for Slow {
 }
 
 #[test]
-fn what_is_taken_in_parts_is_written_whole(rt: HostRuntime) {
+fn what_is_taken_in_parts_is_written_whole(rt: HostRuntime) -> Result<(), Fail> {
     for (room, written) in [(8, 8), (100, 8), (7, 6), (2, 0)] {
-        assert_eq!(rt;
-            write_at(&Slow::new(room), 7, b"abcdefgh"),
-            written,
-            "room {room}"
-        );
-        assert_eq!(rt;
-            write(&mut Slow::new(room), b"abcdefgh"),
-            written,
-            "room {room}"
-        );
+        same(
+            (room, write_at(&Slow::new(room), 7, b"abcdefgh")),
+            (room, written),
+        )?;
+        same(
+            (room, write(&mut Slow::new(room), b"abcdefgh")),
+            (room, written),
+        )?;
     }
+    Ok(())
 }

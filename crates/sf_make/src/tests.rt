@@ -1,4 +1,5 @@
 use super::*;
+use sf_list::{holds, same};
 use std::test::Fail;
 
 // An input of video without samples: "SFCS", version 1, kind 1, 0 in ten bytes, then 17 bytes of configuration.
@@ -44,11 +45,11 @@ const TWO_SOUNDS: [u8; 72] = [
 fn inputs_without_samples_are_headers_and_ends(rt: HostRuntime) -> Result<(), Fail> {
     let inputs = make_inputs(rt.alloc(), 0, 3)?;
     if let [first, second, third] = inputs.as_slice() {
-        assert_eq!(rt; first.as_slice(), NO_PICTURES.as_slice());
-        assert_eq!(rt; second.as_slice(), NO_SOUNDS.as_slice());
-        assert_eq!(rt; third.as_slice(), NO_PICTURES.as_slice());
+        same(first.as_slice(), NO_PICTURES.as_slice())?;
+        same(second.as_slice(), NO_SOUNDS.as_slice())?;
+        same(third.as_slice(), NO_PICTURES.as_slice())?;
     } else {
-        assert!(rt; false);
+        holds(false)?;
     }
     Ok(())
 }
@@ -57,10 +58,10 @@ fn inputs_without_samples_are_headers_and_ends(rt: HostRuntime) -> Result<(), Fa
 fn one_sample_of_each_kind(rt: HostRuntime) -> Result<(), Fail> {
     let inputs = make_inputs(rt.alloc(), 1, 2)?;
     if let [first, second] = inputs.as_slice() {
-        assert_eq!(rt; first.as_slice(), ONE_PICTURE.as_slice());
-        assert_eq!(rt; second.as_slice(), ONE_SOUND.as_slice());
+        same(first.as_slice(), ONE_PICTURE.as_slice())?;
+        same(second.as_slice(), ONE_SOUND.as_slice())?;
     } else {
-        assert!(rt; false);
+        holds(false)?;
     }
     Ok(())
 }
@@ -69,10 +70,10 @@ fn one_sample_of_each_kind(rt: HostRuntime) -> Result<(), Fail> {
 fn two_samples_of_each_kind(rt: HostRuntime) -> Result<(), Fail> {
     let inputs = make_inputs(rt.alloc(), 2, 2)?;
     if let [first, second] = inputs.as_slice() {
-        assert_eq!(rt; first.as_slice(), TWO_PICTURES.as_slice());
-        assert_eq!(rt; second.as_slice(), TWO_SOUNDS.as_slice());
+        same(first.as_slice(), TWO_PICTURES.as_slice())?;
+        same(second.as_slice(), TWO_SOUNDS.as_slice())?;
     } else {
-        assert!(rt; false);
+        holds(false)?;
     }
     Ok(())
 }
@@ -81,9 +82,9 @@ fn two_samples_of_each_kind(rt: HostRuntime) -> Result<(), Fail> {
 fn one_track_is_video_alone(rt: HostRuntime) -> Result<(), Fail> {
     let inputs = make_inputs(rt.alloc(), 1, 1)?;
     if let [only] = inputs.as_slice() {
-        assert_eq!(rt; only.as_slice(), ONE_PICTURE.as_slice());
+        same(only.as_slice(), ONE_PICTURE.as_slice())?;
     } else {
-        assert!(rt; false);
+        holds(false)?;
     }
     Ok(())
 }

@@ -77,6 +77,3 @@ pub use track_heads::{TrackHeads, body_at, heads_in};
 pub use track_samples::say_samples;
 pub use track_tables::{Tables, tables_told};
 pub use tracks::{entries_told, heads_told, kind_in, table_boxes};
-
-#[cfg(test)]
-mod tests;

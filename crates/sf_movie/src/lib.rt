@@ -16,6 +16,3 @@ mod walk;
 pub use load::LoadFault;
 pub use movie::Movie;
 pub use sf_meaning::{MovieFault, PlainSample, TrackKind};
-
-#[cfg(test)]
-mod tests;

@@ -14,6 +14,3 @@ pub use direct::extract_direct;
 pub use laws::files_are_read_out;
 pub use outcome::{ExtractEnd, ExtractOutcome};
 pub use sf_extract::{Plan, read_plan};
-
-#[cfg(test)]
-mod tests;

@@ -1,6 +1,7 @@
 //! Self-tests of a few sizes.
 
 use crate::{Summary, TrackSummary, self_test};
+use sf_list::same;
 use std::test::Fail;
 
 // Sample i of video has 5 bytes and i mod 7 more, and each thirtieth is a sync sample; one of sound has 1 byte and
@@ -27,19 +28,19 @@ fn sound(samples: u64, stored: u64, last: u64) -> TrackSummary {
 #[test]
 fn without_samples_a_dump_is_its_end(rt: HostRuntime) -> Result<(), Fail> {
     let Summary { tracks, dump } = self_test(rt.alloc(), 0, 1)?;
-    assert_eq!(rt; tracks.as_slice(), [video(0, 0, 0, 0)].as_slice());
-    assert_eq!(rt; dump, 1);
+    same(tracks.as_slice(), [video(0, 0, 0, 0)].as_slice())?;
+    same(dump, 1)?;
     Ok(())
 }
 
 #[test]
 fn one_sample_of_each_kind(rt: HostRuntime) -> Result<(), Fail> {
     let Summary { tracks, dump } = self_test(rt.alloc(), 1, 2)?;
-    assert_eq!(rt;
+    same(
         tracks.as_slice(),
-        [video(1, 1, 5, 0), sound(1, 1, 0)].as_slice()
-    );
-    assert_eq!(rt; dump, 49);
+        [video(1, 1, 5, 0), sound(1, 1, 0)].as_slice(),
+    )?;
+    same(dump, 49)?;
     Ok(())
 }
 
@@ -53,8 +54,8 @@ fn thirty_one_samples_of_three_tracks(rt: HostRuntime) -> Result<(), Fail> {
         sound(31, 91, 30_720),
         video(31, 2, 242, 89_999),
     ];
-    assert_eq!(rt; tracks.as_slice(), told.as_slice());
-    assert_eq!(rt; dump, 2_529);
+    same(tracks.as_slice(), told.as_slice())?;
+    same(dump, 2_529)?;
     Ok(())
 }
 
@@ -66,7 +67,7 @@ fn two_thousand_samples_of_each_kind(rt: HostRuntime) -> Result<(), Fail> {
         video(2_000, 67, 15_995, 5_996_940),
         sound(2_000, 6_000, 2_046_944),
     ];
-    assert_eq!(rt; tracks.as_slice(), told.as_slice());
-    assert_eq!(rt; dump, 105_996);
+    same(tracks.as_slice(), told.as_slice())?;
+    same(dump, 105_996)?;
     Ok(())
 }

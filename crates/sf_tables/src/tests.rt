@@ -123,7 +123,7 @@ fn encoded(alloc: Global, chunks: &[(u64, &[Given])]) -> Result<Bytes, AllocErro
 }
 
 /// Whether these bytes stand somewhere in others.
-fn holds(bytes: &Bytes, wanted: &[u8]) -> bool {
+fn holds_bytes(bytes: &Bytes, wanted: &[u8]) -> bool {
     for at in 0..bytes.len() {
         let (_, rest) = bytes.as_slice().split_at(at);
         if rest.starts_with(wanted) {

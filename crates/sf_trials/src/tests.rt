@@ -4,17 +4,18 @@ use sf_app::{
     CodedFault, InputFault, LimitShown, ListFault, MovieFault, SampleFault, Status, TrackFault,
     UsageFault, list_movie, run,
 };
-use sf_list::{Bytes, Text};
+use sf_list::{Bytes, Text, same};
 use sf_world::{MemInputs, MemShelf, MemText};
 use std::alloc::{AllocError, Global};
+use std::test::Fail;
 
+mod answers;
 mod extracting;
 mod failures;
 mod inputs;
 mod listing;
 mod make;
 mod movies;
-mod options;
 mod refusals;
 mod several;
 mod sizes;
@@ -37,6 +38,19 @@ struct Ended {
     status: Status,
     shelf: MemShelf,
     text: MemText,
+}
+
+impl Ended {
+    /// Nothing where the run ended so.
+    fn ends(&self, status: Status) -> Result<(), Fail> {
+        same(self.status, status)
+    }
+
+    /// Nothing where the run ended so, and wrote this text.
+    fn gives(&self, status: Status, text: &[u8]) -> Result<(), Fail> {
+        same(self.status, status)?;
+        same(self.text.bytes(), text)
+    }
 }
 
 fn words_of(alloc: Global, words: &[&str]) -> Result<Vec<String>, AllocError> {

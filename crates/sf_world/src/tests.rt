@@ -1,7 +1,7 @@
 ghost use Rattle.std.specs.Prelude.{◌≡◌, length, IfOk};
 
 use super::*;
-use sf_list::{Bytes, Text};
+use sf_list::{Bytes, Text, holds, same};
 use std::alloc::{AllocError, Global};
 use std::test::Fail;
 
@@ -22,7 +22,7 @@ fn abc(alloc: Global) -> Result<Bytes, AllocError>
 fn the_named_reads_of_a_source_fail(rt: HostRuntime) -> Result<(), Fail> {
     let alloc = rt.alloc();
     let mut source = MemSource::new(alloc, abc(alloc)?, vec![in alloc; 1, 3]?);
-    assert_eq!(rt; source.length(), 3);
+    same(source.length(), 3)?;
     let answers = [
         (0, Ok(2), *b"ab"),
         (0, Err(Failed), [0, 0]),
@@ -33,10 +33,10 @@ fn the_named_reads_of_a_source_fail(rt: HostRuntime) -> Result<(), Fail> {
     ];
     for (at, count, bytes) in answers {
         let read = read(&mut source, at);
-        assert_eq!(rt; read.0, count, "at {at}");
-        assert_eq!(rt; read.1, bytes, "at {at}");
+        same((at, read.0), (at, count))?;
+        same((at, read.1), (at, bytes))?;
     }
-    assert_eq!(rt; source.count(), 2);
+    same(source.count(), 2)?;
     Ok(())
 }
 
@@ -45,12 +45,12 @@ fn a_source_without_failing_reads_never_fails(rt: HostRuntime) -> Result<(), Fai
     let alloc = rt.alloc();
     let mut named = MemSource::new(alloc, abc(alloc)?, Vec::new(alloc));
     let mut sure = SureSource::new(alloc, abc(alloc)?);
-    assert_eq!(rt; sure.length(), 3);
+    same(sure.length(), 3)?;
     for (at, count, bytes) in [(1, 2, *b"bc"), (2, 1, *b"c\0"), (4, 0, [0, 0])] {
-        assert_eq!(rt; read(&mut named, at), (Ok(count), bytes), "at {at}");
-        assert_eq!(rt; read(&mut sure, at), (Ok(count), bytes), "at {at}");
+        same((at, read(&mut named, at)), (at, (Ok(count), bytes)))?;
+        same((at, read(&mut sure, at)), (at, (Ok(count), bytes)))?;
     }
-    assert_eq!(rt; named.count(), 0);
+    same(named.count(), 0)?;
     Ok(())
 }
 
@@ -63,7 +63,7 @@ fn a_hole_is_zeros_but_for_its_pieces(rt: HostRuntime) -> Result<(), Fail> {
     pieces.push((5_368_709_117, Bytes::from_slice(alloc, b"xyz")?))?;
     pieces.push((3, Bytes::from_slice(alloc, b"B")?))?;
     let mut source = HoleSource::new(alloc, 5_368_709_120, pieces);
-    assert_eq!(rt; source.length(), 5_368_709_120);
+    same(source.length(), 5_368_709_120)?;
     let answers = [
         (0, 2, [0, 0]),
         (1, 2, *b"\0a"),
@@ -76,7 +76,7 @@ fn a_hole_is_zeros_but_for_its_pieces(rt: HostRuntime) -> Result<(), Fail> {
         (u64::MAX, 0, [0, 0]),
     ];
     for (at, count, bytes) in answers {
-        assert_eq!(rt; read(&mut source, at), (Ok(count), bytes), "at {at}");
+        same((at, read(&mut source, at)), (at, (Ok(count), bytes)))?;
     }
     Ok(())
 }
@@ -92,15 +92,15 @@ fn inputs_are_fetched_by_name(rt: HostRuntime) -> Result<(), Fail> {
         ))?;
     }
     let mut inputs = MemInputs::new(alloc, named, vec![in alloc; 0]?);
-    assert!(rt; matches!(inputs.fetch("c"), Err(Denied::Failed)));
+    holds(matches!(inputs.fetch("c"), Err(Denied::Failed)))?;
     // Each source fails at its own first read, and the first pair of a name counts.
     for (name, bytes) in [("b", *b"bb"), ("a", *b"ab"), ("a", *b"ab")] {
         let Ok(mut source) = inputs.fetch(name) else {
             return Err(Fail::from(Failed));
         };
-        assert_eq!(rt; read(&mut source, 0).0, Err(Failed), "of {name}");
-        assert_eq!(rt; read(&mut source, 0), (Ok(2), bytes), "of {name}");
-        assert_eq!(rt; source.count(), 1, "of {name}");
+        same((name, read(&mut source, 0).0), (name, Err(Failed)))?;
+        same((name, read(&mut source, 0)), (name, (Ok(2), bytes)))?;
+        same((name, source.count()), (name, 1))?;
         inputs.give_back(source);
     }
     Ok(())
@@ -136,13 +136,13 @@ fn the_named_calls_of_a_shelf_and_its_sinks_fail(rt: HostRuntime) -> Result<(), 
         [true; 4],
     ];
     for answer in answers {
-        assert_eq!(rt; write(&mut shelf, "f"), answer);
+        same(write(&mut shelf, "f"), answer)?;
     }
-    assert_eq!(rt; shelf.file(0), Some(b"ab".as_slice()));
-    assert_eq!(rt; shelf.file(1), Some(b"abcd".as_slice()));
-    assert_eq!(rt; shelf.file(2), Some(b"cd".as_slice()));
-    assert_eq!(rt; shelf.file(3), Some(b"axcd".as_slice()));
-    assert_eq!(rt; shelf.file(4), None);
+    same(shelf.file(0), Some(b"ab".as_slice()))?;
+    same(shelf.file(1), Some(b"abcd".as_slice()))?;
+    same(shelf.file(2), Some(b"cd".as_slice()))?;
+    same(shelf.file(3), Some(b"axcd".as_slice()))?;
+    same(shelf.file(4), None)?;
     Ok(())
 }
 
@@ -154,10 +154,10 @@ fn a_sink_serves_as_a_text_that_fails_at_its_first_append(rt: HostRuntime) -> Re
     let Ok(mut text) = shelf.create("text") else {
         return Err(Fail::from(Failed));
     };
-    assert_eq!(rt; text.append(b"done\n"), Err(Denied::Failed));
-    assert_eq!(rt; text.append(b"done\n"), Ok(()));
+    same(text.append(b"done\n"), Err(Denied::Failed))?;
+    same(text.append(b"done\n"), Ok(()))?;
     shelf.keep(text);
-    assert_eq!(rt; shelf.file(0), Some(b"done\n".as_slice()));
+    same(shelf.file(0), Some(b"done\n".as_slice()))?;
     Ok(())
 }
 
@@ -165,15 +165,15 @@ fn a_sink_serves_as_a_text_that_fails_at_its_first_append(rt: HostRuntime) -> Re
 fn a_sure_shelf_and_a_text_never_fail(rt: HostRuntime) -> Result<(), Fail> {
     let alloc = rt.alloc();
     let mut shelf = SureShelf::new(alloc);
-    assert_eq!(rt; shelf.file(0), None);
-    assert_eq!(rt; write(&mut shelf, "f"), [true; 4]);
-    assert_eq!(rt; write(&mut shelf, "g"), [true; 4]);
-    assert_eq!(rt; shelf.file(1), Some(b"axcd".as_slice()));
-    assert_eq!(rt; shelf.file(2), None);
+    same(shelf.file(0), None)?;
+    same(write(&mut shelf, "f"), [true; 4])?;
+    same(write(&mut shelf, "g"), [true; 4])?;
+    same(shelf.file(1), Some(b"axcd".as_slice()))?;
+    same(shelf.file(2), None)?;
 
     let mut text = MemText::new(alloc);
     text.append(b"file 1 640\n").map_err(|_| Failed)?;
     text.patch(5, b"2").map_err(|_| Failed)?;
-    assert_eq!(rt; text.bytes(), b"file 2 640\n".as_slice());
+    same(text.bytes(), b"file 2 640\n".as_slice())?;
     Ok(())
 }

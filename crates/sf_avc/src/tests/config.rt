@@ -1,7 +1,7 @@
 //! Configuration records that are read.
 
 use super::*;
-use sf_list::Bytes;
+use sf_list::{Bytes, holds};
 use std::alloc::Global;
 use std::test::Fail;
 
@@ -18,7 +18,7 @@ fn refused(alloc: Global, body: &[u8], fault: AvcCFault) -> bool {
 }
 
 // Whether sets are these.
-fn same(sets: &[Bytes], wanted: &[&[u8]]) -> bool {
+fn same_sets(sets: &[Bytes], wanted: &[&[u8]]) -> bool {
     let mut equal = sets.len() == wanted.len();
     for (set, bytes) in sets.iter().zip(wanted) {
         equal = equal && set.as_slice() == *bytes;
@@ -27,12 +27,12 @@ fn same(sets: &[Bytes], wanted: &[&[u8]]) -> bool {
 }
 
 // Whether a body holds this length size and these sets.
-fn holds(alloc: Global, body: &[u8], width: u8, sps: &[&[u8]], pps: &[&[u8]]) -> bool {
+fn holds_config(alloc: Global, body: &[u8], width: u8, sps: &[&[u8]], pps: &[&[u8]]) -> bool {
     match read_config(alloc, body) {
         Ok(config) => {
             config.width == width
-                && same(config.sps.as_slice(), sps)
-                && same(config.pps.as_slice(), pps)
+                && same_sets(config.sps.as_slice(), sps)
+                && same_sets(config.pps.as_slice(), pps)
         }
         Err(_) => false,
     }
@@ -43,18 +43,18 @@ fn a_record_holds_its_sets(rt: HostRuntime) -> Result<(), Fail> {
     let alloc = rt.alloc();
     let sps = b"\x67\x42\x00\x1e\xf0".as_slice();
     let pps = b"\x68\xce\x38\x80".as_slice();
-    assert!(rt; holds(alloc, &ONE_EACH, 4, &[sps], &[pps]));
+    holds(holds_config(alloc, &ONE_EACH, 4, &[sps], &[pps]))?;
     let three = b"\x01\x42\x00\x1e\x01\x02\x00\x01\x67\x00\x02\x67\x42\x01\x00\x00\xfd\xf8";
-    assert!(rt; holds(alloc, three, 2, &[b"\x67", b"\x67\x42"], &[b""]));
+    holds(holds_config(alloc, three, 2, &[b"\x67", b"\x67\x42"], &[b""]))?;
     let none = b"\x01\x42\x00\x1e\xfc\xe0\x00";
-    assert!(rt; holds(alloc, none, 1, &[], &[]));
+    holds(holds_config(alloc, none, 1, &[], &[]))?;
     Ok(())
 }
 
 #[test]
 fn a_record_cut_anywhere_is_short(rt: HostRuntime) -> Result<(), Fail> {
     for len in 0..20 {
-        assert!(rt; refused(rt.alloc(), &ONE_EACH[..len], AvcCFault::Short));
+        holds(refused(rt.alloc(), &ONE_EACH[..len], AvcCFault::Short))?;
     }
     Ok(())
 }
@@ -63,7 +63,7 @@ fn a_record_cut_anywhere_is_short(rt: HostRuntime) -> Result<(), Fail> {
 fn another_version_is_refused(rt: HostRuntime) -> Result<(), Fail> {
     let mut body = ONE_EACH;
     body[0] = 2;
-    assert!(rt; refused(rt.alloc(), &body, AvcCFault::Version(2)));
-    assert!(rt; refused(rt.alloc(), &[0], AvcCFault::Version(0)));
+    holds(refused(rt.alloc(), &body, AvcCFault::Version(2)))?;
+    holds(refused(rt.alloc(), &[0], AvcCFault::Version(0)))?;
     Ok(())
 }

@@ -1,7 +1,7 @@
 //! Configuration records that are made of parameter sets.
 
 use super::*;
-use sf_list::Bytes;
+use sf_list::{Bytes, holds, same};
 use std::alloc::{AllocError, Global};
 use std::test::Fail;
 
@@ -94,7 +94,7 @@ fn records_of_the_profiles_in_use(rt: HostRuntime) -> Result<(), Fail> {
         ),
     ];
     for (config, body) in rows {
-        assert!(rt; makes(rt.alloc(), config, body));
+        holds(makes(rt.alloc(), config, body))?;
     }
     Ok(())
 }
@@ -105,7 +105,7 @@ fn sets_stay_in_order_and_other_units_are_left_out(rt: HostRuntime) -> Result<()
         b"\0\0\x01\x09\xf0\0\0\x01\x68\xce\0\0\x01\x67\x58\x00\x1e\xf0\0\0\x01\x06\x05\0\0\x01\x28\xcf\0\0\x01\x27\x42\0";
     let body =
         b"\x01\x58\x00\x1e\xff\xe2\x00\x05\x67\x58\x00\x1e\xf0\x00\x02\x27\x42\x02\x00\x02\x68\xce\x00\x02\x28\xcf";
-    assert!(rt; makes(rt.alloc(), config, body));
+    holds(makes(rt.alloc(), config, body))?;
     Ok(())
 }
 
@@ -150,7 +150,7 @@ fn each_refusal_of_a_configuration_has_its_cause(rt: HostRuntime) -> Result<(), 
         ),
     ];
     for (config, fault) in rows {
-        assert!(rt; refused(rt.alloc(), config, fault));
+        holds(refused(rt.alloc(), config, fault))?;
     }
     Ok(())
 }
@@ -158,39 +158,33 @@ fn each_refusal_of_a_configuration_has_its_cause(rt: HostRuntime) -> Result<(), 
 #[test]
 fn a_record_has_room_for_31_and_255_sets(rt: HostRuntime) -> Result<(), Fail> {
     let alloc = rt.alloc();
-    assert_eq!(rt;
+    same(
         made_len(alloc, counted(alloc, 31, 1)?.as_slice()),
-        Some(228)
-    );
-    assert!(rt;
-        refused(
-            alloc,
-            counted(alloc, 32, 1)?.as_slice(),
-            ConfigFault::TooLong
-        )
-    );
-    assert_eq!(rt;
+        Some(228),
+    )?;
+    holds(refused(
+        alloc,
+        counted(alloc, 32, 1)?.as_slice(),
+        ConfigFault::TooLong,
+    ))?;
+    same(
         made_len(alloc, counted(alloc, 1, 255)?.as_slice()),
-        Some(1034)
-    );
-    assert!(rt;
-        refused(
-            alloc,
-            counted(alloc, 1, 256)?.as_slice(),
-            ConfigFault::TooLong
-        )
-    );
-    assert_eq!(rt;
+        Some(1034),
+    )?;
+    holds(refused(
+        alloc,
+        counted(alloc, 1, 256)?.as_slice(),
+        ConfigFault::TooLong,
+    ))?;
+    same(
         made_len(alloc, long_set(alloc, 65_530)?.as_slice()),
-        Some(65_548)
-    );
-    assert!(rt;
-        refused(
-            alloc,
-            long_set(alloc, 65_531)?.as_slice(),
-            ConfigFault::TooLong
-        )
-    );
+        Some(65_548),
+    )?;
+    holds(refused(
+        alloc,
+        long_set(alloc, 65_531)?.as_slice(),
+        ConfigFault::TooLong,
+    ))?;
     Ok(())
 }
 
@@ -200,7 +194,7 @@ fn many_bytes_without_a_start_code_are_no_configuration(rt: HostRuntime) -> Resu
     for byte in [0u8, 1, 0x67] {
         let mut bytes = Vec::new(alloc);
         bytes.resize(65_536, byte)?;
-        assert!(rt; refused(alloc, bytes.as_slice(), ConfigFault::Nal(NalFault::NoStart)));
+        holds(refused(alloc, bytes.as_slice(), ConfigFault::Nal(NalFault::NoStart)))?;
     }
     Ok(())
 }

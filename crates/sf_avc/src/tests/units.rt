@@ -3,7 +3,7 @@
 ghost use Rattle.std.specs.Prelude.{◌≤◌};
 
 use super::*;
-use sf_list::Bytes;
+use sf_list::{Bytes, holds, same};
 use std::alloc::Global;
 use std::test::Fail;
 
@@ -29,12 +29,12 @@ fn refused(alloc: Global, payload: &[u8], wanted: NalFault) -> bool {
 fn units_stand_after_start_codes(rt: HostRuntime) -> Result<(), Fail> {
     let alloc = rt.alloc();
     let two = [Unit { at: 4, len: 2 }, Unit { at: 9, len: 2 }];
-    assert!(rt; splits(alloc, &TWO, &two));
+    holds(splits(alloc, &TWO, &two))?;
     let three_bytes = [0, 0, 1, 0x65];
-    assert!(rt; splits(alloc, &three_bytes, &[Unit { at: 3, len: 1 }]));
+    holds(splits(alloc, &three_bytes, &[Unit { at: 3, len: 1 }]))?;
     let five_bytes = [0, 0, 0, 0, 1, 0x65, 0x88, 0, 0, 0, 0, 1, 0x41];
     let wide = [Unit { at: 5, len: 2 }, Unit { at: 12, len: 1 }];
-    assert!(rt; splits(alloc, &five_bytes, &wide));
+    holds(splits(alloc, &five_bytes, &wide))?;
     Ok(())
 }
 
@@ -42,9 +42,9 @@ fn units_stand_after_start_codes(rt: HostRuntime) -> Result<(), Fail> {
 fn zero_bytes_at_the_end_of_a_unit_are_taken_away(rt: HostRuntime) -> Result<(), Fail> {
     let alloc = rt.alloc();
     let at_the_end = [0, 0, 1, 0x65, 0, 0x88, 0, 0];
-    assert!(rt; splits(alloc, &at_the_end, &[Unit { at: 3, len: 3 }]));
+    holds(splits(alloc, &at_the_end, &[Unit { at: 3, len: 3 }]))?;
     let no_start_code = [0, 0, 1, 0x65, 1, 0, 1, 0x88];
-    assert!(rt; splits(alloc, &no_start_code, &[Unit { at: 3, len: 5 }]));
+    holds(splits(alloc, &no_start_code, &[Unit { at: 3, len: 5 }]))?;
     Ok(())
 }
 
@@ -57,33 +57,29 @@ fn units_of_a_long_payload_are_found(rt: HostRuntime) -> Result<(), Fail> {
     payload[500..503].copy_from_slice(&[0, 0, 1]);
     payload[996..1000].copy_from_slice(&[0, 1, 0, 0]);
     let wanted = [Unit { at: 4, len: 496 }, Unit { at: 503, len: 495 }];
-    assert!(rt; splits(rt.alloc(), &payload, &wanted));
+    holds(splits(rt.alloc(), &payload, &wanted))?;
     Ok(())
 }
 
 #[test]
 fn the_first_refusal_counts(rt: HostRuntime) -> Result<(), Fail> {
     let alloc = rt.alloc();
-    assert!(rt; refused(alloc, &[], NalFault::NoStart));
-    assert!(rt; refused(alloc, &[0x65, 0x88, 0x84], NalFault::NoStart));
-    assert!(rt; refused(alloc, &[0, 1, 0x65], NalFault::NoStart));
-    assert!(rt; refused(alloc, &[0, 0, 0], NalFault::NoStart));
-    assert!(rt; refused(alloc, &[0, 0, 2, 0, 0, 1, 0x65], NalFault::NoStart));
-    assert!(rt; refused(alloc, &[0, 0, 0, 1], NalFault::EmptyUnit { at: 4 }));
-    assert!(rt;
-        refused(
-            alloc,
-            &[0, 0, 1, 0, 0, 1, 0x65],
-            NalFault::EmptyUnit { at: 3 }
-        )
-    );
-    assert!(rt;
-        refused(
-            alloc,
-            &[0, 0, 1, 0x65, 0, 0, 1, 0, 0],
-            NalFault::EmptyUnit { at: 7 }
-        )
-    );
+    holds(refused(alloc, &[], NalFault::NoStart))?;
+    holds(refused(alloc, &[0x65, 0x88, 0x84], NalFault::NoStart))?;
+    holds(refused(alloc, &[0, 1, 0x65], NalFault::NoStart))?;
+    holds(refused(alloc, &[0, 0, 0], NalFault::NoStart))?;
+    holds(refused(alloc, &[0, 0, 2, 0, 0, 1, 0x65], NalFault::NoStart))?;
+    holds(refused(alloc, &[0, 0, 0, 1], NalFault::EmptyUnit { at: 4 }))?;
+    holds(refused(
+        alloc,
+        &[0, 0, 1, 0, 0, 1, 0x65],
+        NalFault::EmptyUnit { at: 3 },
+    ))?;
+    holds(refused(
+        alloc,
+        &[0, 0, 1, 0x65, 0, 0, 1, 0, 0],
+        NalFault::EmptyUnit { at: 7 },
+    ))?;
     Ok(())
 }
 
@@ -95,7 +91,7 @@ fn units_are_stored_after_their_lengths(rt: HostRuntime) -> Result<(), Fail> {
     units.push(Unit { at: 9, len: 2 })?;
     let stored = prefix(alloc, &TWO, &units)?;
     let wanted = [0, 0, 0, 2, 0x65, 0x88, 0, 0, 0, 2, 0x41, 0x9A];
-    assert_eq!(rt; stored.as_slice(), wanted.as_slice());
+    same(stored.as_slice(), wanted.as_slice())?;
     Ok(())
 }
 
@@ -126,26 +122,24 @@ fn units_tile_a_stored_sample(rt: HostRuntime) -> Result<(), Fail> {
     let alloc = rt.alloc();
     let four = [0, 0, 0, 2, 0x65, 0x88, 0, 0, 0, 2, 0x41, 0x9A];
     let two = [Unit { at: 4, len: 2 }, Unit { at: 10, len: 2 }];
-    assert!(rt; tiles(alloc, &four, 4, &two));
-    assert!(rt;
-        tiles(
-            alloc,
-            &[2, 0x65, 0x88, 0],
-            1,
-            &[Unit { at: 1, len: 2 }, Unit { at: 4, len: 0 }]
-        )
-    );
-    assert!(rt; tiles(alloc, &[0, 0, 1, 0x65], 3, &[Unit { at: 3, len: 1 }]));
-    assert!(rt; tiles(alloc, &[], 2, &[]));
+    holds(tiles(alloc, &four, 4, &two))?;
+    holds(tiles(
+        alloc,
+        &[2, 0x65, 0x88, 0],
+        1,
+        &[Unit { at: 1, len: 2 }, Unit { at: 4, len: 0 }],
+    ))?;
+    holds(tiles(alloc, &[0, 0, 1, 0x65], 3, &[Unit { at: 3, len: 1 }]))?;
+    holds(tiles(alloc, &[], 2, &[]))?;
     Ok(())
 }
 
 #[test]
 fn a_length_that_passes_the_end_is_refused(rt: HostRuntime) -> Result<(), Fail> {
     let alloc = rt.alloc();
-    assert!(rt; bad_at(alloc, &[0, 0, 0, 9, 0x65], 4, 0));
-    assert!(rt; bad_at(alloc, &[0, 1, 0x65, 0], 2, 3));
-    assert!(rt; bad_at(alloc, &[0, 1, 0x65, 1, 0], 2, 3));
+    holds(bad_at(alloc, &[0, 0, 0, 9, 0x65], 4, 0))?;
+    holds(bad_at(alloc, &[0, 1, 0x65, 0], 2, 3))?;
+    holds(bad_at(alloc, &[0, 1, 0x65, 1, 0], 2, 3))?;
     Ok(())
 }
 
@@ -159,6 +153,6 @@ fn units_are_put_after_start_codes(rt: HostRuntime) -> Result<(), Fail> {
     let mut into = Bytes::from_slice(alloc, &[7])?;
     annexb_of(&stored, &units, &mut into)?;
     let wanted = [7, 0, 0, 0, 1, 0x65, 0x88, 0, 0, 0, 1, 0x41, 0x9A];
-    assert_eq!(rt; into.as_slice(), wanted.as_slice());
+    same(into.as_slice(), wanted.as_slice())?;
     Ok(())
 }

@@ -2,6 +2,7 @@
 
 use super::*;
 use sf_box::BoxFault;
+use sf_list::same;
 
 /// What is wrong with a box with these four tables, which stand at 1000, 1024, 1056 and 1096.
 fn fault_of(
@@ -11,13 +12,8 @@ fn fault_of(
     spread: &[u8],
     places: &[u8],
 ) -> Result<Option<TableFault>, AllocError> {
-    let tables = [
-        (STTS, FIELDS, times),
-        (STSZ, FIELDS, sizes),
-        (STSC, FIELDS, spread),
-        (STCO, FIELDS, places),
-    ];
-    Ok(read(alloc, &tables)?.err())
+    let stbl = four(alloc, times, sizes, spread, places)?;
+    Ok(read(alloc, &stbl)?.err())
 }
 
 #[test]
@@ -29,27 +25,29 @@ fn tables_that_say_too_little_are_refused(rt: HostRuntime) -> Result<(), Fail> {
     let short = |kind, at| Some(TableFault::Short { kind, at });
     let alloc = rt.alloc();
     let found = fault_of(alloc, two_times, SIZES, SPREAD, PLACES)?;
-    assert_eq!(rt; found, short(STTS, 1000));
+    same(found, short(STTS, 1000))?;
     let found = fault_of(alloc, TIMES, SIZES, SPREAD, one_chunk)?;
-    assert_eq!(rt; found, short(STSC, 1056));
+    same(found, short(STSC, 1056))?;
     let found = fault_of(alloc, TIMES, SIZES, third_entry, PLACES)?;
-    assert_eq!(rt; found, Some(TableFault::Description { at: 1056, index: 3 }));
+    same(found, Some(TableFault::Description { at: 1056, index: 3 }))?;
     let found = fault_of(alloc, TIMES, SIZES, SPREAD, PLACES)?;
-    assert_eq!(rt; found, None);
+    same(found, None)?;
     Ok(())
 }
 
 #[test]
 fn boxes_that_are_missing_or_broken_are_refused(rt: HostRuntime) -> Result<(), Fail> {
     let alloc = rt.alloc();
-    let tables = [(STTS, FIELDS, TIMES), (STSC, FIELDS, SPREAD)];
+    let mut stbl = Bytes::new(alloc);
+    put(alloc, &mut stbl, STTS, TIMES)?;
+    put(alloc, &mut stbl, STSC, SPREAD)?;
     let missing = TableFault::Missing {
         kind: STSZ,
         at: 1000,
     };
-    assert_eq!(rt; read(alloc, &tables)?.err(), Some(missing));
+    same(read(alloc, &stbl)?.err(), Some(missing))?;
     let broken = Cursor::read(alloc, b"\0\0\0\x20free", 16, 48000, 2);
     let overrun = TableFault::Tiling(BoxFault::Overrun { at: 16, size: 32 });
-    assert_eq!(rt; broken.err(), Some(overrun));
+    same(broken.err(), Some(overrun))?;
     Ok(())
 }

@@ -1,6 +1,7 @@
 //! Large tables of each kind, and entries that stand past what they tell of.
 
 use super::*;
+use sf_list::{holds, same};
 
 /// So many samples.
 const COUNT: u32 = 3000;
@@ -56,14 +57,15 @@ fn each_table_may_have_an_entry_for_each_sample(rt: HostRuntime) -> Result<(), F
     let spread = one_in_each(alloc)?;
     let places = apart(alloc, 1000, 16)?;
     let numbers = apart(alloc, 1, 2)?;
-    let tables = [
-        (STTS, FIELDS, times.as_slice()),
-        (CTTS, FIELDS, offsets.as_slice()),
-        (STSS, FIELDS, numbers.as_slice()),
-        (STSZ, FIELDS, sizes.as_slice()),
-        (STSC, FIELDS, spread.as_slice()),
-        (STCO, FIELDS, places.as_slice()),
-    ];
+    let mut stbl = four(
+        alloc,
+        times.as_slice(),
+        sizes.as_slice(),
+        spread.as_slice(),
+        places.as_slice(),
+    )?;
+    put(alloc, &mut stbl, CTTS, offsets.as_slice())?;
+    put(alloc, &mut stbl, STSS, numbers.as_slice())?;
     let last = PlainSample {
         sync: false,
         description: 2,
@@ -74,37 +76,37 @@ fn each_table_may_have_an_entry_for_each_sample(rt: HostRuntime) -> Result<(), F
         (2998, sync(5996, 6001, 48_968, 1)),
         (2999, last),
     ];
-    let cursor = cursor_of(rt, &tables)?;
-    assert_eq!(rt; cursor.count(), 3000);
-    assert!(rt; finds(&cursor, 48_991, &wanted));
-    assert_eq!(rt; cursor.held(7, 48_990), outside(2999));
+    let cursor = cursor_of(alloc, &stbl)?;
+    same(cursor.count(), 3000)?;
+    holds(finds(&cursor, 48_991, &wanted))?;
+    same(cursor.held(7, 48_990), outside(2999))?;
     Ok(())
 }
 
 /// A cursor over 3000 samples with these sizes, in one chunk at 100.
-fn of_sizes(rt: HostRuntime, kind: FourCc, sizes: &[u8]) -> Result<Cursor, Fail> {
-    let tables = [
-        (STTS, FIELDS, b"\0\0\0\x01\0\0\x0b\xb8\0\0\0\x02".as_slice()),
-        (kind, FIELDS, sizes),
-        (
-            STSC,
-            FIELDS,
-            b"\0\0\0\x01\0\0\0\x01\0\0\x0b\xb8\0\0\0\x01".as_slice(),
-        ),
-        (STCO, FIELDS, b"\0\0\0\x01\0\0\0\x64".as_slice()),
-    ];
-    cursor_of(rt, &tables)
+fn of_sizes(alloc: Global, kind: FourCc, sizes: &[u8]) -> Result<Cursor, Fail> {
+    let mut stbl = Bytes::new(alloc);
+    put(alloc, &mut stbl, STTS, b"\0\0\0\x01\0\0\x0b\xb8\0\0\0\x02")?;
+    put(alloc, &mut stbl, kind, sizes)?;
+    put(
+        alloc,
+        &mut stbl,
+        STSC,
+        b"\0\0\0\x01\0\0\0\x01\0\0\x0b\xb8\0\0\0\x01",
+    )?;
+    put(alloc, &mut stbl, STCO, b"\0\0\0\x01\0\0\0\x64")?;
+    cursor_of(alloc, &stbl)
 }
 
 /// Whether these sizes give this last sample, in a file that ends where it does, and not in one that ends before.
 fn gives_last(
-    rt: HostRuntime,
+    alloc: Global,
     kind: FourCc,
     sizes: &[u8],
     last: PlainSample,
     end: u64,
 ) -> Result<bool, Fail> {
-    let cursor = of_sizes(rt, kind, sizes)?;
+    let cursor = of_sizes(alloc, kind, sizes)?;
     let outside = cursor.held(7, end.saturating_sub(1)) == outside(2999);
     Ok(outside && finds(&cursor, end, &[(2999, last)]))
 }
@@ -115,9 +117,9 @@ fn sizes_of_few_bits_are_summed_up(rt: HostRuntime) -> Result<(), Fail> {
     let kind = FourCc(*b"stz2");
     let last = sync(5998, 5998, 4598, 2);
     let four = pairs(rt.alloc(), b"\0\0\0\x04", b"\x12")?;
-    assert!(rt; gives_last(rt, kind, four.as_slice(), last, 4600)?);
+    holds(gives_last(rt.alloc(), kind, four.as_slice(), last, 4600)?)?;
     let eight = pairs(rt.alloc(), b"\0\0\0\x08", b"\x01\x02")?;
-    assert!(rt; gives_last(rt, kind, eight.as_slice(), last, 4600)?);
+    holds(gives_last(rt.alloc(), kind, eight.as_slice(), last, 4600)?)?;
     Ok(())
 }
 
@@ -126,35 +128,37 @@ fn sizes_of_many_bits_are_summed_up(rt: HostRuntime) -> Result<(), Fail> {
     // 257 and 258 in turn.
     let last = sync(5998, 5998, 772_342, 258);
     let sixteen = pairs(rt.alloc(), b"\0\0\0\x10", b"\x01\x01\x01\x02")?;
-    assert!(rt; gives_last(rt, FourCc(*b"stz2"), sixteen.as_slice(), last, 772_600)?);
+    holds(gives_last(
+        rt.alloc(),
+        FourCc(*b"stz2"),
+        sixteen.as_slice(),
+        last,
+        772_600,
+    )?)?;
     let each = pairs(rt.alloc(), b"\0\0\0\0", b"\0\0\x01\x01\0\0\x01\x02")?;
-    assert!(rt; gives_last(rt, STSZ, each.as_slice(), last, 772_600)?);
+    holds(gives_last(rt.alloc(), STSZ, each.as_slice(), last, 772_600)?)?;
     Ok(())
 }
 
 /// Tables of three samples. Chunk 1 has none, each from chunk 2 on the most, and from chunk 4,294,967,295 on an entry holds
 /// that isn't there, as in chunk 1.
-fn with_far_entries<'a>(places: &'a [u8]) -> [(FourCc, &'a [u8], &'a [u8]); 4] {
+fn with_far_entries(alloc: Global, places: &[u8]) -> Result<Bytes, AllocError> {
     let spread = b"\0\0\0\x03\0\0\0\x01\0\0\0\0\0\0\0\x09\0\0\0\x02\xff\xff\xff\xff\0\0\0\x01\
         \xff\xff\xff\xff\xff\xff\xff\xff\0\0\0\x09";
-    [
-        (STTS, FIELDS, TIMES),
-        (STSZ, FIELDS, SIZES),
-        (STSC, FIELDS, spread.as_slice()),
-        (STCO, FIELDS, places),
-    ]
+    four(alloc, TIMES, SIZES, spread, places)
 }
 
 #[test]
 fn entries_past_the_last_chunk_hold_no_samples(rt: HostRuntime) -> Result<(), Fail> {
+    let alloc = rt.alloc();
     let wanted = [(0, sync(0, 0, 200, 10)), (2, sync(2048, 2048, 230, 30))];
-    let cursor = cursor_of(rt, &with_far_entries(PLACES))?;
-    assert!(rt; finds(&cursor, 260, &wanted));
-    let one_chunk = with_far_entries(b"\0\0\0\x01\0\0\0\x64");
+    let stbl = with_far_entries(alloc, PLACES)?;
+    holds(finds(&cursor_of(alloc, &stbl)?, 260, &wanted))?;
+    let one_chunk = with_far_entries(alloc, b"\0\0\0\x01\0\0\0\x64")?;
     let short = TableFault::Short {
         kind: STSC,
         at: 1056,
     };
-    assert_eq!(rt; read(rt.alloc(), &one_chunk)?.err(), Some(short));
+    same(read(alloc, &one_chunk)?.err(), Some(short))?;
     Ok(())
 }

@@ -1,6 +1,7 @@
 //! Configurations of sound, and what they say or are refused for.
 
 use super::*;
+use sf_list::holds;
 use std::test::Fail;
 
 /// Configurations that are read: their bytes, and the object type, the rate and the channels.
@@ -37,7 +38,7 @@ fn a_configuration_names_its_object_rate_and_channels(rt: HostRuntime) -> Result
             rate: *rate,
             channels: *channels,
         };
-        assert!(rt; matches!(read_asc(config), Ok(found) if found == asc));
+        holds(matches!(read_asc(config), Ok(found) if found == asc))?;
     }
     Ok(())
 }
@@ -64,7 +65,7 @@ const REFUSED: [(&[u8], AscFault); 12] = [
 #[test]
 fn a_configuration_is_refused_at_its_first_fault(rt: HostRuntime) -> Result<(), Fail> {
     for (config, fault) in &REFUSED {
-        assert!(rt; matches!(read_asc(config), Err(found) if found == *fault));
+        holds(matches!(read_asc(config), Err(found) if found == *fault))?;
     }
     Ok(())
 }

@@ -2,6 +2,7 @@
 
 use super::*;
 use crate::esds::config_in;
+use sf_list::holds;
 use std::alloc::Global;
 use std::test::Fail;
 
@@ -95,10 +96,10 @@ const NOT_READ: [&str; 25] = [
 fn each_descriptor_is_the_first_within_the_one_before(rt: HostRuntime) -> Result<(), Fail> {
     let alloc = rt.alloc();
     for esds in &READ {
-        assert!(rt; reads(alloc, esds));
+        holds(reads(alloc, esds))?;
     }
     for esds in &NOT_READ {
-        assert!(rt; reads_none(alloc, esds));
+        holds(reads_none(alloc, esds))?;
     }
     Ok(())
 }
@@ -111,7 +112,7 @@ fn each_byte_of_a_length_has_seven_bits(rt: HostRuntime) -> Result<(), Fail> {
     esds[26..30].copy_from_slice(&[5, 0x81, 0x02, 0x11]);
     let mut config = [0; 130];
     config[0] = 0x11;
-    assert!(rt; is(&esds, &config));
-    assert!(rt; config_in(&esds[..158]).is_none());
+    holds(is(&esds, &config))?;
+    holds(config_in(&esds[..158]).is_none())?;
     Ok(())
 }

@@ -2,6 +2,7 @@
 
 use super::*;
 use sf_box::put_u32;
+use sf_list::holds;
 use std::alloc::{AllocError, Global};
 use std::test::Fail;
 
@@ -189,10 +190,10 @@ const REFUSED: [(u32, &[&str], EntryFault); 22] = [
 fn the_first_fault_names_its_place(rt: HostRuntime) -> Result<(), Fail> {
     let alloc = rt.alloc();
     for (count, parts, fault) in &REFUSED {
-        assert!(rt; fails(alloc, *count, parts, *fault));
+        holds(fails(alloc, *count, parts, *fault))?;
     }
     for len in 0..8usize {
-        assert!(rt; matches!(read(alloc, &[0; 8][..len]), Err(fault) if fault == SHORT));
+        holds(matches!(read(alloc, &[0; 8][..len]), Err(fault) if fault == SHORT))?;
     }
     Ok(())
 }
@@ -235,7 +236,7 @@ const OTHERS: [(&[&str], [u8; 4], u64, u16); 9] = [
 fn every_other_entry_has_its_type(rt: HostRuntime) -> Result<(), Fail> {
     let alloc = rt.alloc();
     for (parts, kind, len, reference) in &OTHERS {
-        assert!(rt; only_other(alloc, parts, *kind, *len, *reference));
+        holds(only_other(alloc, parts, *kind, *len, *reference))?;
     }
     Ok(())
 }
@@ -264,8 +265,8 @@ const EXTENDED: [u8; 5] = [0x12, 0x10, 0x56, 0xE5, 0x00];
 fn entries_of_ffmpeg_are_read(rt: HostRuntime) -> Result<(), Fail> {
     let alloc = rt.alloc();
     let pasp = "00000010 70617370 00000001 00000001";
-    assert!(rt; only(alloc, &["000000B0 61766331", VIDEO, AVCC, pasp, BTRT], 176));
-    assert!(rt; only(alloc, &["0000006E 6D703461", SOUND, ESDS, BTRT], 110));
+    holds(only(alloc, &["000000B0 61766331", VIDEO, AVCC, pasp, BTRT], 176))?;
+    holds(only(alloc, &["0000006E 6D703461", SOUND, ESDS, BTRT], 110))?;
     Ok(())
 }
 
@@ -297,8 +298,8 @@ fn two_entries_have_their_places_and_references(rt: HostRuntime) -> Result<(), F
     let parts = [head, fields, btrt, esds, "0000008C 61766331", VIDEO, AVCC];
     let body = stsd(alloc, 2, &parts)?;
     let entries = read(alloc, body.as_slice())?;
-    assert!(rt; are_both(entries.as_slice()));
+    holds(are_both(entries.as_slice()))?;
     let none = read(alloc, &[0; 8])?;
-    assert!(rt; none.is_empty());
+    holds(none.is_empty())?;
     Ok(())
 }

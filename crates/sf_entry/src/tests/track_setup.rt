@@ -2,6 +2,7 @@
 
 use super::*;
 use sf_avc::{ConfigFault, NalFault, SpsFault};
+use sf_list::holds;
 use sf_tick::{Kind, Setup};
 use std::alloc::Global;
 use std::test::Fail;
@@ -123,7 +124,7 @@ fn is_made(alloc: Global, row: &Row) -> bool {
 fn a_setup_makes_a_track_with_its_entry(rt: HostRuntime) -> Result<(), Fail> {
     let alloc = rt.alloc();
     for row in &MADE {
-        assert!(rt; is_made(alloc, row));
+        holds(is_made(alloc, row))?;
     }
     Ok(())
 }
@@ -162,7 +163,7 @@ fn states(alloc: Global, config: &str, scale: u32, channels: &[u8; 2], rate: &[u
 fn the_entry_of_sound_states_its_channels_and_rate(rt: HostRuntime) -> Result<(), Fail> {
     let alloc = rt.alloc();
     for (config, scale, channels, rate) in &STATED {
-        assert!(rt; states(alloc, config, *scale, channels, rate));
+        holds(states(alloc, config, *scale, channels, rate))?;
     }
     Ok(())
 }
@@ -184,7 +185,7 @@ fn a_length_of_128_or_more_takes_a_second_byte(rt: HostRuntime) -> Result<(), Fa
     )?;
     wanted.append(&[0; 198])?;
     wanted.append(&[6, 0x80, 0x80, 0x80, 1, 2])?;
-    assert!(rt; track.entry.as_slice() == wanted.as_slice());
+    holds(track.entry.as_slice() == wanted.as_slice())?;
     Ok(())
 }
 
@@ -234,7 +235,7 @@ fn fails(alloc: Global, kind: Kind, config: &str, fault: SetupFault) -> bool {
 fn a_refused_configuration_makes_no_entry(rt: HostRuntime) -> Result<(), Fail> {
     let alloc = rt.alloc();
     for (kind, config, fault) in &REFUSED {
-        assert!(rt; fails(alloc, *kind, config, *fault));
+        holds(fails(alloc, *kind, config, *fault))?;
     }
     Ok(())
 }

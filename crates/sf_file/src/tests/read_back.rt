@@ -1,6 +1,7 @@
 //! Closed files are read by the plain program for movies.
 
 use super::*;
+use sf_list::{holds, same};
 use sf_meaning::{PlainSample, TrackKind, plain_file};
 
 /// A sample that is written: when it is decoded, in microseconds and in ticks, when it is shown, in ticks,
@@ -83,20 +84,20 @@ fn the_samples_of_a_closed_file_are_read_back(rt: HostRuntime) -> Result<(), Fai
     let movie = match plain_file(rt.alloc(), file.as_slice()) {
         Ok(movie) => movie,
         Err(fault) => {
-            assert!(rt; false, "{fault:?}");
+            same((fault, false), (fault, true))?;
             return Ok(());
         }
     };
-    assert_eq!(rt; (movie.scale, movie.start_us), (1_000_000, 1_000_000));
+    same((movie.scale, movie.start_us), (1_000_000, 1_000_000))?;
     let [track] = movie.tracks.as_slice() else {
-        assert!(rt; false, "one track");
+        holds(false)?;
         return Ok(());
     };
-    assert_eq!(rt;
+    same(
         (track.kind, track.scale, track.lead, track.media_time),
-        (TrackKind::Aac, 48_000, 0, 0)
-    );
-    assert_eq!(rt; track.samples.as_slice(), wanted.as_slice());
-    assert!(rt; stand_at(file.as_slice(), 40, b"IIIIIppbJJJJqqq\xFFlast!!"));
+        (TrackKind::Aac, 48_000, 0, 0),
+    )?;
+    same(track.samples.as_slice(), wanted.as_slice())?;
+    holds(stand_at(file.as_slice(), 40, b"IIIIIppbJJJJqqq\xFFlast!!"))?;
     Ok(())
 }

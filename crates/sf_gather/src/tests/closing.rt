@@ -3,6 +3,7 @@
 ghost use Rattle.std.specs.Prelude.{◌≤◌};
 
 use super::*;
+use sf_list::{holds, same};
 
 /// How many samples of four bytes, which are shown when they are decoded, are in each chunk.
 fn counts_at(alloc: Global, interleave_us: u64, times: &[u64]) -> Result<Vec<usize>, AllocError> {
@@ -32,7 +33,7 @@ fn a_chunk_lasts_as_long_as_the_interleaving(rt: HostRuntime) -> Result<(), Fail
     ];
     for (interleave_us, times, wanted) in table {
         let counts = counts_at(alloc, interleave_us, times)?;
-        assert_eq!(rt; counts.as_slice(), wanted);
+        same(counts.as_slice(), wanted)?;
     }
     Ok(())
 }
@@ -46,13 +47,13 @@ fn chunks_are_numbered_and_the_last_is_marked(rt: HostRuntime) -> Result<(), Fai
     let times = [(105, 105), (110, 110), (116, 116), (130, 130)];
     let fed = feed(rt.alloc(), 90_000, options, &times)?;
     let wanted = [(0, 5, 2, false), (1, 16, 1, false), (2, 30, 1, true)];
-    assert_eq!(rt; fed.chunks.len(), 3);
+    same(fed.chunks.len(), 3)?;
     for (chunk, (number, first_us, count, last)) in fed.chunks.iter().zip(wanted.iter()) {
-        assert_eq!(rt; chunk.track, 3);
-        assert_eq!(rt; chunk.number, *number);
-        assert_eq!(rt; chunk.first_us, *first_us);
-        assert_eq!(rt; chunk.samples.len(), *count);
-        assert_eq!(rt; chunk.last, *last);
+        same(chunk.track, 3)?;
+        same(chunk.number, *number)?;
+        same(chunk.first_us, *first_us)?;
+        same(chunk.samples.len(), *count)?;
+        same(chunk.last, *last)?;
     }
     Ok(())
 }
@@ -64,9 +65,9 @@ fn without_samples_there_is_an_empty_last_chunk(rt: HostRuntime) -> Result<(), F
         interleave_us: 1_000_000,
     };
     let chunk = Gather::new(rt.alloc(), 2, Kind::Aac, 48_000, options).end();
-    assert_eq!(rt; (chunk.track, chunk.number, chunk.first_us), (2, 0, 0));
-    assert!(rt; chunk.samples.is_empty());
-    assert!(rt; chunk.last);
+    same((chunk.track, chunk.number, chunk.first_us), (2, 0, 0))?;
+    holds(chunk.samples.is_empty())?;
+    holds(chunk.last)?;
     Ok(())
 }
 
@@ -90,8 +91,8 @@ fn fits_behind(alloc: Global, first: usize, second: usize) -> Result<bool, Alloc
 #[test]
 fn a_full_chunk_takes_no_more_samples(rt: HostRuntime) -> Result<(), Fail> {
     let alloc = rt.alloc();
-    assert!(rt; fits_behind(alloc, 4_194_302, 1)?);
-    assert!(rt; !fits_behind(alloc, 4_194_303, 1)?);
-    assert!(rt; !fits_behind(alloc, 4_194_302, 16_777_216)?);
+    holds(fits_behind(alloc, 4_194_302, 1)?)?;
+    holds(!fits_behind(alloc, 4_194_303, 1)?)?;
+    holds(!fits_behind(alloc, 4_194_302, 16_777_216)?)?;
     Ok(())
 }

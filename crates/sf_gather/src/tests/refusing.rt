@@ -1,6 +1,7 @@
 //! Which samples are refused for their times.
 
 use super::*;
+use sf_list::{holds, same};
 
 const LATEST: u64 = 1 << 48;
 
@@ -20,24 +21,24 @@ fn fault(
 #[test]
 fn times_lie_between_the_start_and_the_greatest(rt: HostRuntime) -> Result<(), Fail> {
     let alloc = rt.alloc();
-    assert_eq!(rt; fault(alloc, LATEST, &[(LATEST, LATEST)])?, None);
-    assert_eq!(rt;
+    same(fault(alloc, LATEST, &[(LATEST, LATEST)])?, None)?;
+    same(
         fault(alloc, LATEST, &[(LATEST + 1, LATEST)])?,
-        Some(SampleFault::TimeTooLarge)
-    );
-    assert_eq!(rt;
+        Some(SampleFault::TimeTooLarge),
+    )?;
+    same(
         fault(alloc, LATEST, &[(LATEST, LATEST + 1)])?,
-        Some(SampleFault::TimeTooLarge)
-    );
-    assert_eq!(rt; fault(alloc, 10, &[(10, 10)])?, None);
-    assert_eq!(rt;
+        Some(SampleFault::TimeTooLarge),
+    )?;
+    same(fault(alloc, 10, &[(10, 10)])?, None)?;
+    same(
         fault(alloc, 10, &[(9, 10)])?,
-        Some(SampleFault::BeforeStart)
-    );
-    assert_eq!(rt;
+        Some(SampleFault::BeforeStart),
+    )?;
+    same(
         fault(alloc, 10, &[(10, 9)])?,
-        Some(SampleFault::BeforeStart)
-    );
+        Some(SampleFault::BeforeStart),
+    )?;
     Ok(())
 }
 
@@ -46,13 +47,13 @@ fn decode_times_rise_by_less_than_32_bits(rt: HostRuntime) -> Result<(), Fail> {
     let alloc = rt.alloc();
     let gap = 1 << 32;
     let falls = Some(SampleFault::Falls { last_us: 30 });
-    assert_eq!(rt; fault(alloc, 10, &[(30, 30), (30, 30)])?, None);
-    assert_eq!(rt; fault(alloc, 10, &[(30, 30), (29, 30)])?, falls);
-    assert_eq!(rt; fault(alloc, 0, &[(5, 5), (gap + 4, gap + 4)])?, None);
-    assert_eq!(rt;
+    same(fault(alloc, 10, &[(30, 30), (30, 30)])?, None)?;
+    same(fault(alloc, 10, &[(30, 30), (29, 30)])?, falls)?;
+    same(fault(alloc, 0, &[(5, 5), (gap + 4, gap + 4)])?, None)?;
+    same(
         fault(alloc, 0, &[(5, 5), (gap + 5, gap + 5)])?,
-        Some(SampleFault::GapTooLong)
-    );
+        Some(SampleFault::GapTooLong),
+    )?;
     Ok(())
 }
 
@@ -60,16 +61,16 @@ fn decode_times_rise_by_less_than_32_bits(rt: HostRuntime) -> Result<(), Fail> {
 fn offsets_are_signed_numbers_of_32_bits(rt: HostRuntime) -> Result<(), Fail> {
     let alloc = rt.alloc();
     let half = 1 << 31;
-    assert_eq!(rt; fault(alloc, 0, &[(7, half + 6)])?, None);
-    assert_eq!(rt;
+    same(fault(alloc, 0, &[(7, half + 6)])?, None)?;
+    same(
         fault(alloc, 0, &[(7, half + 7)])?,
-        Some(SampleFault::OffsetTooLarge)
-    );
-    assert_eq!(rt; fault(alloc, 0, &[(half + 7, 7)])?, None);
-    assert_eq!(rt;
+        Some(SampleFault::OffsetTooLarge),
+    )?;
+    same(fault(alloc, 0, &[(half + 7, 7)])?, None)?;
+    same(
         fault(alloc, 0, &[(half + 8, 7)])?,
-        Some(SampleFault::OffsetTooLarge)
-    );
+        Some(SampleFault::OffsetTooLarge),
+    )?;
     Ok(())
 }
 
@@ -78,19 +79,19 @@ fn the_first_of_two_refusals_is_told(rt: HostRuntime) -> Result<(), Fail> {
     let alloc = rt.alloc();
     let gap = 1 << 32;
     let falls = Some(SampleFault::Falls { last_us: gap });
-    assert_eq!(rt;
+    same(
         fault(alloc, 10, &[(LATEST + 1, 9)])?,
-        Some(SampleFault::TimeTooLarge)
-    );
-    assert_eq!(rt;
+        Some(SampleFault::TimeTooLarge),
+    )?;
+    same(
         fault(alloc, 10, &[(30, 30), (9, 9)])?,
-        Some(SampleFault::BeforeStart)
-    );
-    assert_eq!(rt; fault(alloc, 0, &[(gap, gap), (gap - 1, 0)])?, falls);
-    assert_eq!(rt;
+        Some(SampleFault::BeforeStart),
+    )?;
+    same(fault(alloc, 0, &[(gap, gap), (gap - 1, 0)])?, falls)?;
+    same(
         fault(alloc, 0, &[(0, 0), (gap, 0)])?,
-        Some(SampleFault::GapTooLong)
-    );
+        Some(SampleFault::GapTooLong),
+    )?;
     Ok(())
 }
 
@@ -102,15 +103,15 @@ fn a_refused_sample_comes_back_and_leaves_no_trace(rt: HostRuntime) -> Result<()
         interleave_us: 1_000_000,
     };
     let mut gather = Gather::new(alloc, 0, Kind::Aac, 48_000, options);
-    assert!(rt; is_taken(&mut gather, sample(alloc, (20, 20), 4)?));
+    holds(is_taken(&mut gather, sample(alloc, (20, 20), 4)?))?;
     let back = gather.accept(sample(alloc, (90, LATEST + 1), 5)?).err();
-    assert!(rt; back.is_some());
+    holds(back.is_some())?;
     if let Some(back) = back {
-        assert_eq!(rt; back.1, SampleFault::TimeTooLarge);
-        assert_eq!(rt; (back.0.dts_us, back.0.pts_us), (90, LATEST + 1));
-        assert_eq!(rt; back.0.bytes.len(), 5);
+        same(back.1, SampleFault::TimeTooLarge)?;
+        same((back.0.dts_us, back.0.pts_us), (90, LATEST + 1))?;
+        same(back.0.bytes.len(), 5)?;
     }
-    assert!(rt; is_taken(&mut gather, sample(alloc, (20, 20), 4)?));
-    assert_eq!(rt; gather.end().samples.len(), 2);
+    holds(is_taken(&mut gather, sample(alloc, (20, 20), 4)?))?;
+    same(gather.end().samples.len(), 2)?;
     Ok(())
 }

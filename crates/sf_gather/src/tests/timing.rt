@@ -3,6 +3,7 @@
 ghost use Rattle.std.specs.Prelude.{◌≤◌};
 
 use super::*;
+use sf_list::same;
 
 /// The decode and the composition tick of each sample with these times, all in one chunk.
 fn ticks(
@@ -36,12 +37,12 @@ fn composition_ticks_may_lie_before_and_behind_decode_ticks(rt: HostRuntime) -> 
         0,
         &[(0, 33_333), (33_333, 100_000), (66_667, 66_667)],
     )?;
-    assert_eq!(rt;
+    same(
         behind.as_slice(),
-        [(0, 3000), (3000, 9000), (6000, 6000)].as_slice()
-    );
+        [(0, 3000), (3000, 9000), (6000, 6000)].as_slice(),
+    )?;
     let before = ticks(alloc, 90_000, 0, &[(0, 0), (33_333, 0)])?;
-    assert_eq!(rt; before.as_slice(), [(0, 0), (3000, 0)].as_slice());
+    same(before.as_slice(), [(0, 0), (3000, 0)].as_slice())?;
     Ok(())
 }
 
@@ -53,6 +54,6 @@ fn ticks_count_from_the_start(rt: HostRuntime) -> Result<(), Fail> {
         1_000_000,
         &[(1_000_000, 1_000_000), (1_021_333, 1_042_667)],
     )?;
-    assert_eq!(rt; ticks.as_slice(), [(0, 0), (1024, 2048)].as_slice());
+    same(ticks.as_slice(), [(0, 0), (1024, 2048)].as_slice())?;
     Ok(())
 }

@@ -4,6 +4,7 @@ ghost use Rattle.std.specs.Prelude.{◌≡◌, ◌≤◌, length, IfOk};
 
 use super::*;
 use sf_avc::NalFault;
+use sf_list::{holds, same};
 
 const OPTIONS: Options = Options {
     start_us: 0,
@@ -27,14 +28,14 @@ fn units_are_stored_after_their_lengths(rt: HostRuntime) -> Result<(), Fail> {
     let alloc = rt.alloc();
     let payload = [0, 0, 0, 1, 0x65, 0x88, 0, 0, 1, 0x41, 0x9a];
     let mut gather = Gather::new(alloc, 0, Kind::Avc, 90_000, OPTIONS);
-    assert!(rt; is_taken(&mut gather, sample_of(alloc, 0, true, &payload)?));
+    holds(is_taken(&mut gather, sample_of(alloc, 0, true, &payload)?))?;
     let chunk = gather.end();
-    assert_eq!(rt; chunk.samples.len(), 1);
+    same(chunk.samples.len(), 1)?;
     for sample in chunk.samples.as_slice() {
-        assert_eq!(rt;
+        same(
             sample.bytes.as_slice(),
-            [0, 0, 0, 2, 0x65, 0x88, 0, 0, 0, 2, 0x41, 0x9a].as_slice()
-        );
+            [0, 0, 0, 2, 0x65, 0x88, 0, 0, 0, 2, 0x41, 0x9a].as_slice(),
+        )?;
     }
     Ok(())
 }
@@ -59,12 +60,12 @@ fn a_payload_that_is_no_list_of_units_is_refused(rt: HostRuntime) -> Result<(), 
     let empty = Some(SampleFault::Nal(NalFault::EmptyUnit { at: 7 }));
     let falls = Some(SampleFault::Falls { last_us: 20 });
     let with_empty = [0, 0, 1, 0x65, 0, 0, 1, 0, 0, 0, 1, 0x41];
-    assert_eq!(rt; fault_of(alloc, 20, &[0, 0, 1, 0x65])?, None);
-    assert_eq!(rt; fault_of(alloc, 20, &[0x65, 0x88, 0x84])?, no_start);
-    assert_eq!(rt; fault_of(alloc, 20, &with_empty)?, empty);
+    same(fault_of(alloc, 20, &[0, 0, 1, 0x65])?, None)?;
+    same(fault_of(alloc, 20, &[0x65, 0x88, 0x84])?, no_start)?;
+    same(fault_of(alloc, 20, &with_empty)?, empty)?;
     // The rules of times come first.
-    assert_eq!(rt; fault_of(alloc, 19, &[0x65, 0x88, 0x84])?, falls);
-    assert_eq!(rt; fault_of(alloc, 19, &with_empty)?, falls);
+    same(fault_of(alloc, 19, &[0x65, 0x88, 0x84])?, falls)?;
+    same(fault_of(alloc, 19, &with_empty)?, falls)?;
     Ok(())
 }
 
@@ -75,13 +76,13 @@ fn a_refused_sample_of_video_comes_back_whole(rt: HostRuntime) -> Result<(), Fai
     let back = gather
         .accept(sample_of(alloc, 5, true, &[0x65, 0x88, 0x84])?)
         .err();
-    assert!(rt; back.is_some());
+    holds(back.is_some())?;
     if let Some(back) = back {
-        assert_eq!(rt; (back.0.dts_us, back.0.pts_us, back.0.sync), (5, 5, true));
-        assert_eq!(rt; back.0.bytes.as_slice(), [0x65, 0x88, 0x84].as_slice());
+        same((back.0.dts_us, back.0.pts_us, back.0.sync), (5, 5, true))?;
+        same(back.0.bytes.as_slice(), [0x65, 0x88, 0x84].as_slice())?;
     }
-    assert!(rt; is_taken(&mut gather, sample_of(alloc, 4, true, &[0, 0, 1, 0x65])?));
-    assert_eq!(rt; gather.end().samples.len(), 1);
+    holds(is_taken(&mut gather, sample_of(alloc, 4, true, &[0, 0, 1, 0x65])?))?;
+    same(gather.end().samples.len(), 1)?;
     Ok(())
 }
 
@@ -95,9 +96,9 @@ fn joins(alloc: Global, kind: Kind, sync: bool) -> Result<bool, AllocError> {
 #[test]
 fn a_chunk_closes_before_a_sync_sample_of_video(rt: HostRuntime) -> Result<(), Fail> {
     let alloc = rt.alloc();
-    assert!(rt; !joins(alloc, Kind::Avc, true)?);
-    assert!(rt; joins(alloc, Kind::Avc, false)?);
-    assert!(rt; joins(alloc, Kind::Aac, true)?);
-    assert!(rt; joins(alloc, Kind::Aac, false)?);
+    holds(!joins(alloc, Kind::Avc, true)?)?;
+    holds(joins(alloc, Kind::Avc, false)?)?;
+    holds(joins(alloc, Kind::Aac, true)?)?;
+    holds(joins(alloc, Kind::Aac, false)?)?;
     Ok(())
 }

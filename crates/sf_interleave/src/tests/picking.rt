@@ -1,4 +1,5 @@
 use super::*;
+use sf_list::{holds, same};
 
 #[test]
 fn the_earliest_chunk_is_picked_and_the_lowest_track_first(rt: HostRuntime) -> Result<(), Fail> {
@@ -22,8 +23,8 @@ fn the_earliest_chunk_is_picked_and_the_lowest_track_first(rt: HostRuntime) -> R
     ];
     for (handed, wanted) in table {
         let mut pending = Pending::new(alloc, 3)?;
-        assert!(rt; hand_all(alloc, &mut pending, handed)?);
-        assert_eq!(rt; picked(alloc, pending)?.as_slice(), wanted);
+        holds(hand_all(alloc, &mut pending, handed)?)?;
+        same(picked(alloc, pending)?.as_slice(), wanted)?;
     }
     Ok(())
 }
@@ -32,10 +33,10 @@ fn the_earliest_chunk_is_picked_and_the_lowest_track_first(rt: HostRuntime) -> R
 fn the_front_is_the_first_chunk_of_its_track(rt: HostRuntime) -> Result<(), Fail> {
     let alloc = rt.alloc();
     let mut pending = Pending::new(alloc, 3)?;
-    assert!(rt; hand_all(alloc, &mut pending, &[(1, 4, 20), (1, 5, 10)])?);
-    assert_eq!(rt; pending.front(1).map(|chunk| chunk.number), Some(4));
-    assert!(rt; pending.front(0).is_none());
-    assert!(rt; pending.pick().is_some());
-    assert_eq!(rt; pending.front(1).map(|chunk| chunk.number), Some(5));
+    holds(hand_all(alloc, &mut pending, &[(1, 4, 20), (1, 5, 10)])?)?;
+    same(pending.front(1).map(|chunk| chunk.number), Some(4))?;
+    holds(pending.front(0).is_none())?;
+    holds(pending.pick().is_some())?;
+    same(pending.front(1).map(|chunk| chunk.number), Some(5))?;
     Ok(())
 }

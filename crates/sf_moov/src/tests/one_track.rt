@@ -1,6 +1,7 @@
 //! The movie box of one track of sound.
 
 use super::*;
+use sf_list::{holds, same};
 
 /// The sample table box of three samples of four bytes at 40, with the entry of AAC at 48000 Hz.
 const TABLES: [u8; 203] = *b"\0\0\0\xCBstbl\
@@ -42,15 +43,15 @@ fn the_movie_box_of_one_track_has_588_bytes(rt: HostRuntime) -> Result<(), Fail>
     let alloc = rt.alloc();
     let stbls = vec![in alloc; Bytes::from_slice(alloc, &TABLES)?]?;
     let heads = [SOUND];
-    assert_eq!(rt; moov_size(&heads), 588);
-    assert_eq!(rt; MoovTotals::new().with(&SOUND).size(), 588);
+    same(moov_size(&heads), 588)?;
+    same(MoovTotals::new().with(&SOUND).size(), 588)?;
     let moov = encoded(alloc, &heads, 0, &stbls)?;
-    assert!(rt; moov.is_some());
+    holds(moov.is_some())?;
     if let Some(moov) = moov {
         let parts: [(usize, &[u8]); 3] = [(0, &HEADERS), (363, &TABLES), (566, &START)];
-        assert_eq!(rt; moov.len(), 590);
+        same(moov.len(), 590)?;
         for (at, wanted) in parts {
-            assert!(rt; stand_at(moov.as_slice(), at, wanted));
+            holds(stand_at(moov.as_slice(), at, wanted))?;
         }
     }
     Ok(())

@@ -1,6 +1,7 @@
 //! The movie box of a track of video and of two tracks of sound.
 
 use super::*;
+use sf_list::{holds, same};
 
 /// Video of 2^32 - 1 microseconds that begins one microsecond after the file: each of its headers has
 /// eight bytes for its duration. Its sample table box has 10 bytes.
@@ -96,9 +97,9 @@ fn each_track_has_its_headers_its_edits_and_its_tables(rt: HostRuntime) -> Resul
         Bytes::from_slice(alloc, b"\0\0\0\x09stblx")?,
     ]?;
     let heads = [VIDEO, sound, LATE];
-    assert_eq!(rt; moov_size(&heads), 1070);
+    same(moov_size(&heads), 1070)?;
     let moov = encoded(alloc, &heads, 7, &stbls)?;
-    assert!(rt; moov.is_some());
+    holds(moov.is_some())?;
     if let Some(moov) = moov {
         let parts: [(usize, &[u8]); 5] = [
             (0, &MOVIE_HEADER),
@@ -107,9 +108,9 @@ fn each_track_has_its_headers_its_edits_and_its_tables(rt: HostRuntime) -> Resul
             (730, &LATE_TRACK),
             (1048, &START),
         ];
-        assert_eq!(rt; moov.len(), 1072);
+        same(moov.len(), 1072)?;
         for (at, wanted) in parts {
-            assert!(rt; stand_at(moov.as_slice(), at, wanted));
+            holds(stand_at(moov.as_slice(), at, wanted))?;
         }
     }
     Ok(())
@@ -118,11 +119,11 @@ fn each_track_has_its_headers_its_edits_and_its_tables(rt: HostRuntime) -> Resul
 #[test]
 fn a_movie_box_without_tracks_has_140_bytes(rt: HostRuntime) -> Result<(), Fail> {
     let alloc = rt.alloc();
-    assert_eq!(rt; moov_size(&[]), 140);
+    same(moov_size(&[]), 140)?;
     let moov = encoded(alloc, &[], 7, &[])?;
-    assert!(rt; moov.is_some());
+    holds(moov.is_some())?;
     if let Some(moov) = moov {
-        assert!(rt; moov.as_slice().ends_with(&START));
+        holds(moov.as_slice().ends_with(&START))?;
     }
     Ok(())
 }

@@ -2,6 +2,7 @@
 
 use super::*;
 use sf_box::{BoxFault, FourCc};
+use sf_list::same;
 
 /// A sample table box with one empty box inside.
 const TABLE: &[u8] = b"\0\0\0\x10stbl\0\0\0\x08free";
@@ -69,18 +70,18 @@ fn numbers(head: &TrakHead) -> [u64; 6] {
 fn the_headers_of_two_tracks_are_told(rt: HostRuntime) -> Result<(), Fail> {
     let moov = two_tracks(rt.alloc())?.ok_or("not written")?;
     let headers = read(rt.alloc(), moov.as_slice()).ok().ok_or("refused")?;
-    assert_eq!(rt; headers.scale, 1_000_000);
-    assert_eq!(rt; headers.start_us, 2_000_000);
-    assert_eq!(rt; headers.fault, None);
-    assert_eq!(rt; headers.traks.len(), 2);
+    same(headers.scale, 1_000_000)?;
+    same(headers.start_us, 2_000_000)?;
+    same(headers.fault, None)?;
+    same(headers.traks.len(), 2)?;
     // The track of sound has 261 bytes: its sample table box stands 245 bytes after its head.
     let wanted = [
         [168, 48_000, 0, 0, 421, 8],
         [429, 90_000, 500_000, 0, 750, 8],
     ];
     for (head, wanted) in headers.traks.as_slice().iter().zip(wanted) {
-        assert_eq!(rt; numbers(head), wanted);
-        assert_eq!(rt; head.self_held.as_slice(), [true].as_slice());
+        same(numbers(head), wanted)?;
+        same(head.self_held.as_slice(), [true].as_slice())?;
     }
     Ok(())
 }
@@ -98,9 +99,9 @@ fn the_first_fault_inside_a_track_stands_beside_the_tracks_before_it(
         at: 790,
     };
     // The tracks end at 758, and the user data at 782.
-    assert_eq!(rt; end, 722);
-    assert_eq!(rt; headers.traks.len(), 2);
-    assert_eq!(rt; headers.fault, Some(missing));
+    same(end, 722)?;
+    same(headers.traks.len(), 2)?;
+    same(headers.fault, Some(missing))?;
     Ok(())
 }
 
@@ -127,7 +128,7 @@ fn faults_of_the_movie_header_are_errors(rt: HostRuntime) -> Result<(), Fail> {
         ),
     ];
     for (moov, wanted) in cases {
-        assert_eq!(rt; read(rt.alloc(), moov).err(), Some(wanted));
+        same(read(rt.alloc(), moov).err(), Some(wanted))?;
     }
     Ok(())
 }

@@ -6,8 +6,10 @@ use sf_avc::{ConfigFault, NalFault};
 use sf_coded::CodedFault;
 use sf_entry::{AscFault, SetupFault};
 use sf_gather::SampleFault;
+use sf_list::{holds, same};
 use sf_world::MemShelf;
 use std::alloc::Global;
+use std::test::Fail;
 
 /// No samples, of sound of 48000 Hz.
 const EMPTY: [u8; 25] = *b"SFCS\0\x01\0\x02\0\0\0\0\0\0\0\0\0\x02\0\0\0\x02\x11\x90\0";
@@ -51,7 +53,7 @@ fn recorded(alloc: Global, rows: &[Row<'_>]) -> usize {
 }
 
 #[test]
-fn an_input_is_recorded_up_to_its_end_or_its_fault(rt: HostRuntime) {
+fn an_input_is_recorded_up_to_its_end_or_its_fault(rt: HostRuntime) -> Result<(), Fail> {
     let falls = refused(
         InputFault::Sample(SampleFault::Falls { last_us: 21_333 }),
         76,
@@ -64,12 +66,13 @@ fn an_input_is_recorded_up_to_its_end_or_its_fault(rt: HostRuntime) {
         // 640 bytes, a composition offset box of two runs (16 + 16), and a sync sample box of two (16 + 8).
         (&SHOWN_LATER, SerialOutcome::Done, 696, 3),
     ];
-    assert_eq!(rt; recorded(rt.alloc(), &rows), 4);
+    same(recorded(rt.alloc(), &rows), 4)?;
+    Ok(())
 }
 
 // Each header has one byte that differs.
 #[test]
-fn a_header_that_is_refused_gives_no_file(rt: HostRuntime) {
+fn a_header_that_is_refused_gives_no_file(rt: HostRuntime) -> Result<(), Fail> {
     let magic = refused(InputFault::Coded(CodedFault::Magic), 0);
     let start = refused(
         InputFault::Setup(SetupFault::Avc(ConfigFault::Nal(NalFault::NoStart))),
@@ -107,12 +110,13 @@ fn a_header_that_is_refused_gives_no_file(rt: HostRuntime) {
             0,
         ),
     ];
-    assert_eq!(rt; recorded(rt.alloc(), &rows), 4);
+    same(recorded(rt.alloc(), &rows), 4)?;
+    Ok(())
 }
 
 // The first read is that of the header and of the first sample, and the second one that of the other sample.
 #[test]
-fn a_failed_read_ends_the_file_before_it(rt: HostRuntime) {
+fn a_failed_read_ends_the_file_before_it(rt: HostRuntime) -> Result<(), Fail> {
     let alloc = rt.alloc();
     let wanted = Ended {
         outcome: SerialOutcome::ReadFault { input: 0 },
@@ -127,8 +131,9 @@ fn a_failed_read_ends_the_file_before_it(rt: HostRuntime) {
     };
     if let Some(input) = halves(alloc) {
         let end = record(alloc, &[input.as_slice()], PLAIN, failing);
-        assert_eq!(rt; end, Some(wanted));
+        same(end, Some(wanted))?;
     }
+    Ok(())
 }
 
 /// Whether the one file of an input without samples, of 604 bytes, has these ticks a second. They stand at 284: after the
@@ -147,7 +152,8 @@ fn has_ticks(alloc: Global, input: &[u8], ticks: [u8; 4]) -> bool {
 }
 
 #[test]
-fn an_input_may_name_its_ticks(rt: HostRuntime) {
-    assert!(rt; has_ticks(rt.alloc(), &EMPTY, [0, 0, 0xBB, 0x80]));
-    assert!(rt; has_ticks(rt.alloc(), &TICKS, [0, 0x0F, 0x42, 0x40]));
+fn an_input_may_name_its_ticks(rt: HostRuntime) -> Result<(), Fail> {
+    holds(has_ticks(rt.alloc(), &EMPTY, [0, 0, 0xBB, 0x80]))?;
+    holds(has_ticks(rt.alloc(), &TICKS, [0, 0x0F, 0x42, 0x40]))?;
+    Ok(())
 }

@@ -6,8 +6,10 @@ use super::ended::{
 use crate::{InputFault, SerialOutcome, TrackFault};
 use sf_coded::CodedFault;
 use sf_gather::SampleFault;
+use sf_list::same;
 use sf_series::LimitShown;
 use std::alloc::Global;
+use std::test::Fail;
 
 /// Sound of 48000 Hz with one sample, at 1500000 microseconds.
 const LATE: [u8; 51] = *b"SFCS\0\x01\0\x02\0\0\0\0\0\0\0\0\0\x02\0\0\0\x02\x11\x90\
@@ -27,17 +29,18 @@ const FALLING: [u8; 77] = *b"SFCS\0\x01\0\x02\0\0\0\0\0\0\0\0\0\x02\0\0\0\x02\x1
     \0";
 
 #[test]
-fn a_file_of_just_the_most_bytes_is_taken(rt: HostRuntime) {
+fn a_file_of_just_the_most_bytes_is_taken(rt: HostRuntime) -> Result<(), Fail> {
     let wanted = one(SerialOutcome::Done, [648, NONE, NONE], 3);
-    assert_eq!(rt;
+    same(
         record(rt.alloc(), &[&THREE], bounded(648, 0), NOTHING),
-        wanted
-    );
+        wanted,
+    )?;
+    Ok(())
 }
 
 // The third chunk doesn't go in.
 #[test]
-fn a_chunk_that_passes_the_most_bytes_is_told(rt: HostRuntime) {
+fn a_chunk_that_passes_the_most_bytes_is_told(rt: HostRuntime) -> Result<(), Fail> {
     let limit = LimitShown::Size {
         track: 0,
         sample: 2,
@@ -45,19 +48,21 @@ fn a_chunk_that_passes_the_most_bytes_is_told(rt: HostRuntime) {
         max: 647,
     };
     let wanted = one(SerialOutcome::Limit(limit), [640, NONE, NONE], 2);
-    assert_eq!(rt;
+    same(
         record(rt.alloc(), &[&THREE], bounded(647, 0), NOTHING),
-        wanted
-    );
+        wanted,
+    )?;
+    Ok(())
 }
 
 #[test]
-fn a_chunk_that_passes_the_most_bytes_begins_the_next_file(rt: HostRuntime) {
+fn a_chunk_that_passes_the_most_bytes_begins_the_next_file(rt: HostRuntime) -> Result<(), Fail> {
     let wanted = one(SerialOutcome::Done, [632, 640, NONE], 3);
-    assert_eq!(rt;
+    same(
         record(rt.alloc(), &[&THREE], bounded(647, 1), NOTHING),
-        wanted
-    );
+        wanted,
+    )?;
+    Ok(())
 }
 
 /// One chunk of three samples in a file of at most so many bytes.
@@ -67,7 +72,7 @@ fn whole(alloc: Global, max_bytes: u32) -> Option<Ended> {
 }
 
 #[test]
-fn a_first_chunk_may_meet_a_limit(rt: HostRuntime) {
+fn a_first_chunk_may_meet_a_limit(rt: HostRuntime) -> Result<(), Fail> {
     let limit = LimitShown::Size {
         track: 0,
         sample: 0,
@@ -75,17 +80,19 @@ fn a_first_chunk_may_meet_a_limit(rt: HostRuntime) {
         max: 639,
     };
     let wanted = one(SerialOutcome::Limit(limit), [604, NONE, NONE], 0);
-    assert_eq!(rt; whole(rt.alloc(), 639), wanted);
+    same(whole(rt.alloc(), 639), wanted)?;
+    Ok(())
 }
 
 #[test]
-fn an_empty_file_may_meet_a_limit(rt: HostRuntime) {
+fn an_empty_file_may_meet_a_limit(rt: HostRuntime) -> Result<(), Fail> {
     let limit = LimitShown::Nothing {
         would_be: 604,
         max: 603,
     };
     let wanted = one(SerialOutcome::Limit(limit), [NONE; 3], 0);
-    assert_eq!(rt; whole(rt.alloc(), 603), wanted);
+    same(whole(rt.alloc(), 603), wanted)?;
+    Ok(())
 }
 
 /// The answer, the samples of the first tracks, whether there is a first file and a second one, and the failed reads.
@@ -98,7 +105,7 @@ fn told(end: Option<Ended>) -> Option<Told> {
 }
 
 #[test]
-fn two_inputs_are_tracks_of_one_file(rt: HostRuntime) {
+fn two_inputs_are_tracks_of_one_file(rt: HostRuntime) -> Result<(), Fail> {
     let end = told(record(rt.alloc(), &[&THREE, &LATE], PLAIN, NOTHING));
     let wanted = (
         SerialOutcome::Done,
@@ -106,12 +113,13 @@ fn two_inputs_are_tracks_of_one_file(rt: HostRuntime) {
         [true, false],
         [0, 0, NONE],
     );
-    assert_eq!(rt; end, Some(wanted));
+    same(end, Some(wanted))?;
+    Ok(())
 }
 
 // The second file begins with the second chunk of the first track, a second after the start of the first file.
 #[test]
-fn a_file_ends_with_its_duration(rt: HostRuntime) {
+fn a_file_ends_with_its_duration(rt: HostRuntime) -> Result<(), Fail> {
     let plan = Plan {
         interleave_us: 500_000,
         max_bytes: 0,
@@ -125,7 +133,8 @@ fn a_file_ends_with_its_duration(rt: HostRuntime) {
         [true, true],
         [0, 0, NONE],
     );
-    assert_eq!(rt; end, Some(wanted));
+    same(end, Some(wanted))?;
+    Ok(())
 }
 
 /// The answer for a track with a sample that falls.
@@ -137,23 +146,25 @@ fn falls(track: u32) -> SerialOutcome {
 
 // The other tracks are recorded whole, and of this one the sample before.
 #[test]
-fn the_lowest_fault_is_told(rt: HostRuntime) {
+fn the_lowest_fault_is_told(rt: HostRuntime) -> Result<(), Fail> {
     let inputs: [&[u8]; 3] = [&THREE, &FALLING, &FALLING];
     let end = told(record(rt.alloc(), &inputs, PLAIN, NOTHING));
     let wanted = (falls(1), [3, 1, 1], [true, false], [0, 0, 0]);
-    assert_eq!(rt; end, Some(wanted));
+    same(end, Some(wanted))?;
+    Ok(())
 }
 
 // The second and the third input are cut within their headers.
 #[test]
-fn headers_are_read_before_a_file_is_made(rt: HostRuntime) {
+fn headers_are_read_before_a_file_is_made(rt: HostRuntime) -> Result<(), Fail> {
     let inputs: [&[u8]; 3] = [&THREE, &THREE[..7], &THREE[..6]];
     let end = told(record(rt.alloc(), &inputs, PLAIN, NOTHING));
     let why = InputFault::Coded(CodedFault::Truncated { at: 7 });
     let fault = TrackFault { why, place: 7 };
     let outcome = SerialOutcome::Refused { track: 1, fault };
     let wanted = (outcome, [0; 3], [false; 2], [0; 3]);
-    assert_eq!(rt; end, Some(wanted));
+    same(end, Some(wanted))?;
+    Ok(())
 }
 
 /// Two inputs of a small sample and of one that is read by itself. This read of an input fails.
@@ -169,40 +180,42 @@ fn record_halves(alloc: Global, number: usize, read: u64) -> Option<Told> {
 
 // The first read is that of the header.
 #[test]
-fn a_failed_read_of_a_header_gives_no_file(rt: HostRuntime) {
+fn a_failed_read_of_a_header_gives_no_file(rt: HostRuntime) -> Result<(), Fail> {
     let first = (
         SerialOutcome::ReadFault { input: 0 },
         [0, 0, NONE],
         [false; 2],
         [1, 0, NONE],
     );
-    assert_eq!(rt; record_halves(rt.alloc(), 0, 0), Some(first));
+    same(record_halves(rt.alloc(), 0, 0), Some(first))?;
     let second = (
         SerialOutcome::ReadFault { input: 1 },
         [0, 0, NONE],
         [false; 2],
         [0, 1, NONE],
     );
-    assert_eq!(rt; record_halves(rt.alloc(), 1, 0), Some(second));
+    same(record_halves(rt.alloc(), 1, 0), Some(second))?;
+    Ok(())
 }
 
 // The other input is recorded whole.
 #[test]
-fn a_failed_read_ends_its_track(rt: HostRuntime) {
+fn a_failed_read_ends_its_track(rt: HostRuntime) -> Result<(), Fail> {
     let first = (
         SerialOutcome::ReadFault { input: 0 },
         [1, 2, NONE],
         [true, false],
         [1, 0, NONE],
     );
-    assert_eq!(rt; record_halves(rt.alloc(), 0, 1), Some(first));
+    same(record_halves(rt.alloc(), 0, 1), Some(first))?;
     let second = (
         SerialOutcome::ReadFault { input: 1 },
         [2, 1, NONE],
         [true, false],
         [0, 1, NONE],
     );
-    assert_eq!(rt; record_halves(rt.alloc(), 1, 1), Some(second));
+    same(record_halves(rt.alloc(), 1, 1), Some(second))?;
+    Ok(())
 }
 
 /// Records two files, of one and of two chunks, where a call of an object fails. How many files are kept then, where a
@@ -222,28 +235,30 @@ fn kept_after(alloc: Global, object: u32, call: u64) -> Option<usize> {
 
 // The shelf's two creates; then of each file the head, its chunks, the movie box, and the size of the media data box.
 #[test]
-fn each_failing_call_of_a_shelf_ends_the_files(rt: HostRuntime) {
+fn each_failing_call_of_a_shelf_ends_the_files(rt: HostRuntime) -> Result<(), Fail> {
     let alloc = rt.alloc();
     let creates = [kept_after(alloc, 0, 0), kept_after(alloc, 0, 1)];
-    assert_eq!(rt; creates, [Some(0), Some(1)]);
+    same(creates, [Some(0), Some(1)])?;
     let first = [kept_after(alloc, 1, 0), kept_after(alloc, 1, 1)];
-    assert_eq!(rt; first, [Some(1); 2]);
+    same(first, [Some(1); 2])?;
     let closing = [kept_after(alloc, 1, 2), kept_after(alloc, 1, 3)];
-    assert_eq!(rt; closing, [Some(1); 2]);
+    same(closing, [Some(1); 2])?;
     let second = [
         kept_after(alloc, 2, 0),
         kept_after(alloc, 2, 1),
         kept_after(alloc, 2, 2),
     ];
-    assert_eq!(rt; second, [Some(2); 3]);
+    same(second, [Some(2); 3])?;
     let closing = [kept_after(alloc, 2, 3), kept_after(alloc, 2, 4)];
-    assert_eq!(rt; closing, [Some(2); 2]);
+    same(closing, [Some(2); 2])?;
+    Ok(())
 }
 
 #[test]
-fn sixteen_inputs_are_recorded_at_once(rt: HostRuntime) {
+fn sixteen_inputs_are_recorded_at_once(rt: HostRuntime) -> Result<(), Fail> {
     let inputs: [&[u8]; 16] = [&APART; 16];
     let end = told(record(rt.alloc(), &inputs, PLAIN, NOTHING));
     let wanted = (SerialOutcome::Done, [2; 3], [true, false], [0; 3]);
-    assert_eq!(rt; end, Some(wanted));
+    same(end, Some(wanted))?;
+    Ok(())
 }

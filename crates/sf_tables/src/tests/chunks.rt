@@ -1,4 +1,5 @@
 use super::*;
+use sf_list::holds;
 
 #[test]
 fn a_chunk_has_an_entry_where_its_count_differs(rt: HostRuntime) -> Result<(), Fail> {
@@ -11,8 +12,8 @@ fn a_chunk_has_an_entry_where_its_count_differs(rt: HostRuntime) -> Result<(), F
     let stsc =
         b"\0\0\0\x28stsc\0\0\0\0\0\0\0\x02\0\0\0\x01\0\0\0\x02\0\0\0\x01\0\0\0\x03\0\0\0\x01\0\0\0\x01";
     let stco = b"\0\0\0\x1Cstco\0\0\0\0\0\0\0\x03\0\0\0\x28\0\0\0\x30\0\0\0\x38";
-    assert!(rt; holds(&out, stsc));
-    assert!(rt; holds(&out, stco));
+    holds(holds_bytes(&out, stsc))?;
+    holds(holds_bytes(&out, stco))?;
     Ok(())
 }
 
@@ -34,7 +35,7 @@ fn places_have_eight_bytes_where_one_needs_them(rt: HostRuntime) -> Result<(), F
     ];
     for (place, wanted) in table {
         let out = encoded(rt.alloc(), &[(place, &[(0, 0, true, 4)])])?;
-        assert!(rt; holds(&out, wanted));
+        holds(holds_bytes(&out, wanted))?;
     }
     Ok(())
 }

@@ -1,4 +1,5 @@
 use super::*;
+use sf_list::{holds, same};
 
 #[test]
 fn deltas_are_written_as_runs(rt: HostRuntime) -> Result<(), Fail> {
@@ -32,7 +33,7 @@ fn deltas_are_written_as_runs(rt: HostRuntime) -> Result<(), Fail> {
         (&[], b"\0\0\0\x10stts\0\0\0\0\0\0\0\0"),
     ];
     for (chunks, wanted) in table {
-        assert!(rt; holds(&encoded(rt.alloc(), chunks)?, wanted));
+        holds(holds_bytes(&encoded(rt.alloc(), chunks)?, wanted))?;
     }
     Ok(())
 }
@@ -58,8 +59,8 @@ fn composition_offsets_are_written_where_one_is_not_0(rt: HostRuntime) -> Result
     ];
     for (samples, there, wanted) in table {
         let out = encoded(rt.alloc(), &[(40, samples)])?;
-        assert!(rt; !out.is_empty());
-        assert_eq!(rt; holds(&out, wanted), there);
+        holds(!out.is_empty())?;
+        same(holds_bytes(&out, wanted), there)?;
     }
     Ok(())
 }
@@ -77,8 +78,8 @@ fn sync_samples_are_numbered_where_one_is_not_sync(rt: HostRuntime) -> Result<()
     ];
     for (samples, there, wanted) in table {
         let out = encoded(rt.alloc(), &[(40, samples)])?;
-        assert!(rt; !out.is_empty());
-        assert_eq!(rt; holds(&out, wanted), there);
+        holds(!out.is_empty())?;
+        same(holds_bytes(&out, wanted), there)?;
     }
     Ok(())
 }
@@ -96,7 +97,7 @@ fn sizes_are_written_once_where_all_are_equal(rt: HostRuntime) -> Result<(), Fai
         ),
     ];
     for (samples, wanted) in table {
-        assert!(rt; holds(&encoded(rt.alloc(), &[(40, samples)])?, wanted));
+        holds(holds_bytes(&encoded(rt.alloc(), &[(40, samples)])?, wanted))?;
     }
     Ok(())
 }

@@ -1,4 +1,5 @@
 use super::*;
+use sf_list::{holds, same};
 
 #[test]
 fn the_box_holds_the_tables_in_order(rt: HostRuntime) -> Result<(), Fail> {
@@ -14,7 +15,7 @@ fn the_box_holds_the_tables_in_order(rt: HostRuntime) -> Result<(), Fail> {
         \0\0\0\x14stsz\0\0\0\0\0\0\0\x04\0\0\0\x03\
         \0\0\0\x1Cstsc\0\0\0\0\0\0\0\x01\0\0\0\x01\0\0\0\x03\0\0\0\x01\
         \0\0\0\x14stco\0\0\0\0\0\0\0\x01\0\0\0\x28";
-    assert_eq!(rt; out.as_slice(), wanted.as_slice());
+    same(out.as_slice(), wanted.as_slice())?;
     Ok(())
 }
 
@@ -27,7 +28,7 @@ fn without_samples_the_tables_are_empty(rt: HostRuntime) -> Result<(), Fail> {
         \0\0\0\x14stsz\0\0\0\0\0\0\0\0\0\0\0\0\
         \0\0\0\x10stsc\0\0\0\0\0\0\0\0\
         \0\0\0\x10stco\0\0\0\0\0\0\0\0";
-    assert_eq!(rt; out.as_slice(), wanted.as_slice());
+    same(out.as_slice(), wanted.as_slice())?;
     Ok(())
 }
 
@@ -38,16 +39,16 @@ fn tables_tell_their_duration_count_and_first_time(rt: HostRuntime) -> Result<()
         (48, &[(12, 12, true, 4)]),
     ];
     let (none, _) = tables(rt.alloc(), &[])?;
-    assert_eq!(rt;
+    same(
         (none.duration(), none.count(), none.first_dts()),
-        (0, 0, None)
-    );
+        (0, 0, None),
+    )?;
     let (tables, told) = tables(rt.alloc(), &chunks)?;
-    assert!(rt; told);
-    assert_eq!(rt;
+    holds(told)?;
+    same(
         (tables.duration(), tables.count(), tables.first_dts()),
-        (13, 3, Some(21))
-    );
+        (13, 3, Some(21)),
+    )?;
     Ok(())
 }
 
@@ -58,7 +59,7 @@ fn the_box_is_put_behind_what_is_there(rt: HostRuntime) -> Result<(), Fail> {
     if tables.size(4) < 1 << 32 {
         tables.encode(&ENTRY, &mut out)?;
     }
-    assert_eq!(rt; out.len(), 102);
-    assert!(rt; out.as_slice().starts_with(b"before\0\0\0\x60stbl"));
+    same(out.len(), 102)?;
+    holds(out.as_slice().starts_with(b"before\0\0\0\x60stbl"))?;
     Ok(())
 }

@@ -3,6 +3,7 @@
 use super::inputs::FILE;
 use super::*;
 use sf_box::BoxFault;
+use sf_list::{holds, same};
 use std::test::Fail;
 
 /// The record of the second sample of the file: track 0, sync, its time, and four bytes.
@@ -70,10 +71,9 @@ fn each_plan_is_read_out_into_a_dump(rt: HostRuntime) -> Result<(), Fail> {
     ];
     for (words, [first, second], lines) in rows {
         let ended = run_words(rt.alloc(), words, &FILE)?;
-        assert_eq!(rt; ended.status, Status::Done);
-        assert_eq!(rt; ended.text.bytes(), lines);
-        assert!(rt; ended.shelf.file(0) == first);
-        assert!(rt; ended.shelf.file(1) == second);
+        ended.gives(Status::Done, lines)?;
+        holds(ended.shelf.file(0) == first)?;
+        holds(ended.shelf.file(1) == second)?;
     }
     Ok(())
 }
@@ -148,9 +148,8 @@ fn each_refusal_is_told_with_its_place(rt: HostRuntime) -> Result<(), Fail> {
     ];
     for (words, input, status, line, sizes) in rows {
         let ended = run_words(rt.alloc(), words, input)?;
-        assert_eq!(rt; ended.status, status);
-        assert_eq!(rt; ended.text.bytes(), line);
-        assert_eq!(rt; [len_of(&ended.shelf, 0), len_of(&ended.shelf, 1)], sizes);
+        ended.gives(status, line)?;
+        same([len_of(&ended.shelf, 0), len_of(&ended.shelf, 1)], sizes)?;
     }
     Ok(())
 }
@@ -197,7 +196,7 @@ fn each_call_fails_in_turn(rt: HostRuntime) -> Result<(), Fail> {
         (4, 2, 0, UNREAD, [Some(0), Some(0)]),
     ];
     for (read, object, call, status, sizes) in rows {
-        assert_eq!(rt; failing(rt.alloc(), read, object, call)?, (status, sizes));
+        same(failing(rt.alloc(), read, object, call)?, (status, sizes))?;
     }
     Ok(())
 }
@@ -222,8 +221,8 @@ fn a_long_dump_is_written_in_blocks(rt: HostRuntime) -> Result<(), Fail> {
         shelf.fail_on(1, call)?;
         let mut text = MemText::new(alloc);
         let ended = run(alloc, &words, &mut inputs, &mut shelf, &mut text);
-        assert_eq!(rt; ended, status);
-        assert_eq!(rt; only_size(&shelf), Some(size));
+        same(ended, status)?;
+        same(only_size(&shelf), Some(size))?;
     }
     Ok(())
 }

@@ -1,15 +1,18 @@
 //! Calls on the outside that fail.
 
 use super::*;
+use sf_list::{holds, same};
 use sf_world::{Shelf, Sink};
 use std::test::Fail;
 
 #[test]
 fn a_name_that_is_not_there_makes_no_file(rt: HostRuntime) -> Result<(), Fail> {
     let ended = run_words(rt.alloc(), &["record", "b"], &INPUT)?;
-    assert_eq!(rt; ended.status, Status::OpenFault { input: 0 });
-    assert!(rt; ended.shelf.file(0).is_none());
-    assert_eq!(rt; ended.text.bytes(), b"cannot open input 0\n".as_slice());
+    ended.gives(
+        Status::OpenFault { input: 0 },
+        b"cannot open input 0\n".as_slice(),
+    )?;
+    holds(ended.shelf.file(0).is_none())?;
     Ok(())
 }
 
@@ -50,16 +53,19 @@ fn each_read_of_the_input_fails(rt: HostRuntime) -> Result<(), Fail> {
         let mut shelf = MemShelf::new(alloc, Vec::new(alloc));
         let mut text = MemText::new(alloc);
         let ended = run(alloc, &words, &mut inputs, &mut shelf, &mut text);
-        assert_eq!(rt; ended, status, "read {failing}");
-        assert_eq!(rt; only_size(&shelf), size, "read {failing}");
-        assert_eq!(rt; shelf.file(0).is_some(), size.is_some());
+        same((failing, ended), (failing, status))?;
+        same((failing, only_size(&shelf)), (failing, size))?;
+        same(shelf.file(0).is_some(), size.is_some())?;
         if size.is_some() {
             // It is the file of a whole input of these samples.
             let whole = file_of(alloc, kept)?;
-            assert_eq!(rt; whole.status, Status::Done);
-            assert!(rt; shelf.file(0) == whole.shelf.file(0), "read {failing}");
+            same(whole.status, Status::Done)?;
+            same(
+                (failing, shelf.file(0) == whole.shelf.file(0)),
+                (failing, true),
+            )?;
         }
-        assert_eq!(rt; text.bytes(), lines);
+        same(text.bytes(), lines)?;
     }
     Ok(())
 }
@@ -83,8 +89,8 @@ fn a_failing_write_is_told_before_a_failed_read_behind_the_header(
         shelf.fail_on(object, if object == 0 { 0 } else { 2 })?;
         let mut text = MemText::new(alloc);
         let ended = run(alloc, &words, &mut inputs, &mut shelf, &mut text);
-        assert_eq!(rt; ended, status);
-        assert_eq!(rt; only_size(&shelf), size);
+        same(ended, status)?;
+        same(only_size(&shelf), size)?;
     }
     Ok(())
 }
@@ -109,9 +115,9 @@ fn each_write_of_the_file_fails(rt: HostRuntime) -> Result<(), Fail> {
             shelf.fail_on(object, call)?;
             let mut text = MemText::new(alloc);
             let status = run(alloc, &words, &mut inputs, &mut shelf, &mut text);
-            assert_eq!(rt; status, Status::WriteFault);
-            assert_eq!(rt; only_size(&shelf), size);
-            assert_eq!(rt; text.bytes(), b"cannot write\n".as_slice());
+            same(status, Status::WriteFault)?;
+            same(only_size(&shelf), size)?;
+            same(text.bytes(), b"cannot write\n".as_slice())?;
         }
     }
     Ok(())
@@ -140,9 +146,9 @@ fn a_failing_text_turns_only_the_answer_done(rt: HostRuntime) -> Result<(), Fail
         };
         let ended = run(alloc, &words, &mut inputs, &mut shelf, &mut text);
         texts.keep(text);
-        assert_eq!(rt; ended, status);
-        assert_eq!(rt; only_size(&shelf), Some(640));
-        assert_eq!(rt; only_size(&texts), Some(0));
+        same(ended, status)?;
+        same(only_size(&shelf), Some(640))?;
+        same(only_size(&texts), Some(0))?;
     }
     Ok(())
 }

@@ -1,6 +1,7 @@
 //! Inputs that are recorded whole, and inputs that end too early.
 
 use super::*;
+use sf_list::{holds, same};
 use std::test::Fail;
 
 /// The file of the whole input, box by box.
@@ -39,13 +40,13 @@ const SIZES: [usize; 4] = [604, 632, 636, 640];
 #[test]
 fn an_input_is_recorded_into_one_file(rt: HostRuntime) -> Result<(), Fail> {
     let ended = run_words(rt.alloc(), &["record", "a"], &INPUT)?;
-    assert_eq!(rt; ended.status, Status::Done);
-    assert!(rt; ended.shelf.file(0) == Some(FILE.as_slice()));
-    assert!(rt; ended.shelf.file(1).is_none());
-    assert_eq!(rt;
+    ended.ends(Status::Done)?;
+    holds(ended.shelf.file(0) == Some(FILE.as_slice()))?;
+    holds(ended.shelf.file(1).is_none())?;
+    same(
         ended.text.bytes(),
-        b"file 1 640\ntrack 0 3\ndone\n".as_slice()
-    );
+        b"file 1 640\ntrack 0 3\ndone\n".as_slice(),
+    )?;
     Ok(())
 }
 
@@ -54,12 +55,8 @@ fn an_input_without_records_gives_empty_tables(rt: HostRuntime) -> Result<(), Fa
     let mut input = [0; 25];
     input[..24].copy_from_slice(&INPUT[..24]);
     let ended = run_words(rt.alloc(), &["record", "a"], &input)?;
-    assert_eq!(rt; ended.status, Status::Done);
-    assert_eq!(rt; only_size(&ended.shelf), Some(604));
-    assert_eq!(rt;
-        ended.text.bytes(),
-        b"file 1 604\ntrack 0 0\ndone\n".as_slice()
-    );
+    ended.gives(Status::Done, b"file 1 604\ntrack 0 0\ndone\n".as_slice())?;
+    same(only_size(&ended.shelf), Some(604))?;
     Ok(())
 }
 
@@ -74,18 +71,20 @@ fn an_input_that_ends_too_early_is_refused_at_its_length(rt: HostRuntime) -> Res
             why: InputFault::Coded(CodedFault::Truncated { at }),
             place: at,
         };
-        assert_eq!(rt;
-            ended.status,
-            Status::InputRefused { track: 0, fault },
-            "at {length}"
-        );
+        same(
+            (length, ended.status),
+            (length, Status::InputRefused { track: 0, fault }),
+        )?;
         let size = if length < 24 {
             None
         } else {
             SIZES.get((length - 24) / 26).copied()
         };
-        assert_eq!(rt; only_size(&ended.shelf), size, "at {length}");
-        assert_eq!(rt; ended.shelf.file(0).is_some(), length >= 24, "at {length}");
+        same((length, only_size(&ended.shelf)), (length, size))?;
+        same(
+            (length, ended.shelf.file(0).is_some()),
+            (length, length >= 24),
+        )?;
     }
     Ok(())
 }

@@ -3,6 +3,7 @@
 use super::inputs::FILE;
 use super::*;
 use sf_box::{BoxFault, FourCc};
+use sf_list::{holds, same};
 use sf_meaning::{HeadFault, MovieFault, TableFault};
 use sf_world::{HoleSource, MemSource, Shelf};
 use std::test::Fail;
@@ -24,8 +25,8 @@ fn each_sample_has_a_line(rt: HostRuntime) -> Result<(), Fail> {
     let alloc = rt.alloc();
     let mut source = source_of(alloc, &FILE, Vec::new(alloc))?;
     let mut text = MemText::new(alloc);
-    assert_eq!(rt; list_movie(alloc, &mut source, &mut text), Ok(()));
-    assert_eq!(rt; text.bytes(), LINES);
+    same(list_movie(alloc, &mut source, &mut text), Ok(()))?;
+    same(text.bytes(), LINES)?;
     Ok(())
 }
 
@@ -42,8 +43,8 @@ fn each_read_fails_before_the_first_line(rt: HostRuntime) -> Result<(), Fail> {
         } else {
             (Ok(()), LINES)
         };
-        assert_eq!(rt; answer, wanted, "at {failing}");
-        assert_eq!(rt; text.bytes(), lines, "at {failing}");
+        same((failing, answer), (failing, wanted))?;
+        same((failing, text.bytes()), (failing, lines))?;
     }
     Ok(())
 }
@@ -75,8 +76,8 @@ fn a_text_that_fails_gains_no_more(rt: HostRuntime) -> Result<(), Fail> {
     ];
     for (failing, wanted, size) in rows {
         let (answer, gained) = listed_by(rt.alloc(), &FILE, failing)?;
-        assert_eq!(rt; answer, wanted, "at {failing}");
-        assert_eq!(rt; gained, Some(size), "at {failing}");
+        same((failing, answer), (failing, wanted))?;
+        same((failing, gained), (failing, Some(size)))?;
     }
     Ok(())
 }
@@ -102,8 +103,8 @@ fn a_long_list_is_put_into_the_text_in_parts(rt: HostRuntime) -> Result<(), Fail
     ];
     for (failing, wanted, size) in rows {
         let (answer, gained) = listed_by(alloc, file, failing)?;
-        assert_eq!(rt; answer, wanted, "at {failing}");
-        assert_eq!(rt; gained, Some(size), "at {failing}");
+        same((failing, answer), (failing, wanted))?;
+        same((failing, gained), (failing, Some(size)))?;
     }
     Ok(())
 }
@@ -129,8 +130,8 @@ fn a_file_that_is_cut_short_is_refused_at_its_box(rt: HostRuntime) -> Result<(),
         let mut text = MemText::new(alloc);
         let answer = list_movie(alloc, &mut source, &mut text);
         let fault = fault_at(length as u64);
-        assert_eq!(rt; answer, Err(ListFault::Refused(fault)), "at {length}");
-        assert!(rt; text.bytes().is_empty(), "at {length}");
+        same((length, answer), (length, Err(ListFault::Refused(fault))))?;
+        same((length, text.bytes().is_empty()), (length, true))?;
     }
     Ok(())
 }
@@ -148,8 +149,8 @@ fn a_media_data_box_of_5_gib_is_passed_over(rt: HostRuntime) -> Result<(), Fail>
     pieces.push((end, back))?;
     let mut source = HoleSource::new(alloc, end + 588, pieces);
     let mut text = MemText::new(alloc);
-    assert_eq!(rt; list_movie(alloc, &mut source, &mut text), Ok(()));
-    assert_eq!(rt; text.bytes(), LINES);
+    same(list_movie(alloc, &mut source, &mut text), Ok(()))?;
+    same(text.bytes(), LINES)?;
     Ok(())
 }
 
@@ -172,9 +173,8 @@ fn a_movie_of_a_name_is_listed(rt: HostRuntime) -> Result<(), Fail> {
     ];
     for (words, file, status, lines) in rows {
         let ended = run_words(rt.alloc(), words, file)?;
-        assert_eq!(rt; ended.status, status);
-        assert_eq!(rt; ended.text.bytes(), lines);
-        assert!(rt; ended.shelf.file(0).is_none());
+        ended.gives(status, lines)?;
+        holds(ended.shelf.file(0).is_none())?;
     }
     Ok(())
 }
@@ -188,13 +188,12 @@ fn a_failed_read_ends_the_list(rt: HostRuntime) -> Result<(), Fail> {
         let mut shelf = MemShelf::new(alloc, Vec::new(alloc));
         let mut text = MemText::new(alloc);
         let status = run(alloc, &words, &mut inputs, &mut shelf, &mut text);
-        assert_eq!(rt; status, Status::ReadFault { input: 0 }, "at {failing}");
-        assert_eq!(rt;
-            text.bytes(),
-            b"cannot read input 0\n".as_slice(),
-            "at {failing}"
-        );
-        assert!(rt; shelf.file(0).is_none(), "at {failing}");
+        same((failing, status), (failing, Status::ReadFault { input: 0 }))?;
+        same(
+            (failing, text.bytes()),
+            (failing, b"cannot read input 0\n".as_slice()),
+        )?;
+        same((failing, shelf.file(0).is_none()), (failing, true))?;
     }
     Ok(())
 }
@@ -213,8 +212,8 @@ fn a_failed_text_ends_the_list(rt: HostRuntime) -> Result<(), Fail> {
     };
     let status = run(alloc, &words, &mut inputs, &mut shelf, &mut text);
     texts.keep(text);
-    assert_eq!(rt; status, Status::WriteFault);
-    assert_eq!(rt; only_size(&texts), Some(0));
+    same(status, Status::WriteFault)?;
+    same(only_size(&texts), Some(0))?;
     Ok(())
 }
 
@@ -307,8 +306,8 @@ fn a_changed_movie_is_refused_at_its_box(rt: HostRuntime) -> Result<(), Fail> {
     for (at, bytes, fault) in rows {
         let file = changed(alloc, at, bytes)?;
         let ended = run_words(alloc, &["list", "a"], &file)?;
-        assert_eq!(rt; ended.status, Status::MovieRefused(fault), "at {at}");
-        assert_eq!(rt; ended.text.bytes(), b"movie refused\n".as_slice());
+        same((at, ended.status), (at, Status::MovieRefused(fault)))?;
+        same(ended.text.bytes(), b"movie refused\n".as_slice())?;
     }
     Ok(())
 }

@@ -1,6 +1,7 @@
 //! Movies that are made in memory.
 
 use super::*;
+use sf_list::same;
 use sf_world::{Shelf, Sink};
 use std::test::Fail;
 
@@ -18,9 +19,8 @@ fn made_movies_are_told(rt: HostRuntime) -> Result<(), Fail> {
     ];
     for (words, lines) in rows {
         let ended = run_words(rt.alloc(), words, &INPUT)?;
-        assert_eq!(rt; ended.status, Status::Done);
-        assert_eq!(rt; ended.text.bytes(), lines);
-        assert_eq!(rt; only_size(&ended.shelf), None);
+        ended.gives(Status::Done, lines)?;
+        same(only_size(&ended.shelf), None)?;
     }
     Ok(())
 }
@@ -37,11 +37,11 @@ fn a_text_that_fails_under_made_movies_is_told(rt: HostRuntime) -> Result<(), Fa
     let Ok(mut text) = texts.create("text") else {
         return Err(Fail::from(Status::NoMemory));
     };
-    assert_eq!(rt;
+    same(
         run(alloc, &words, &mut inputs, &mut shelf, &mut text),
-        Status::WriteFault
-    );
+        Status::WriteFault,
+    )?;
     texts.keep(text);
-    assert_eq!(rt; only_size(&texts), Some(0));
+    same(only_size(&texts), Some(0))?;
     Ok(())
 }

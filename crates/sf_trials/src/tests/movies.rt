@@ -3,6 +3,7 @@
 use super::inputs::FILE;
 use super::*;
 use sf_extract::read_plan;
+use sf_list::{holds, same};
 use sf_meaning::MovieFault;
 use sf_reader::{ExtractOutcome, extract_direct};
 use sf_world::HoleSource;
@@ -190,8 +191,8 @@ fn a_movie_of_a_phone_is_listed(rt: HostRuntime) -> Result<(), Fail> {
     lines.append(b"track 1 aac 48000 1407 1407 0\n")?;
     put_lines(alloc, &mut lines, 1, sound, 1)?;
     let ended = run_words(alloc, &["list", "a"], file.as_slice())?;
-    assert_eq!(rt; ended.status, Status::Done);
-    assert!(rt; ended.text.bytes() == lines.as_slice());
+    ended.ends(Status::Done)?;
+    holds(ended.text.bytes() == lines.as_slice())?;
     Ok(())
 }
 
@@ -240,11 +241,11 @@ fn a_sample_after_4_gib_is_listed(rt: HostRuntime) -> Result<(), Fail> {
     let alloc = rt.alloc();
     let mut source = after_4_gib(alloc)?;
     let mut text = MemText::new(alloc);
-    assert_eq!(rt; list_movie(alloc, &mut source, &mut text), Ok(()));
-    assert_eq!(rt;
+    same(list_movie(alloc, &mut source, &mut text), Ok(()))?;
+    same(
         text.bytes(),
-        b"start 0\ntrack 0 aac 48000 1 1 0\nsample 0 0 0 0 1 4\n".as_slice()
-    );
+        b"start 0\ntrack 0 aac 48000 1 1 0\nsample 0 0 0 0 1 4\n".as_slice(),
+    )?;
     Ok(())
 }
 
@@ -255,14 +256,14 @@ fn a_sample_after_4_gib_is_extracted(rt: HostRuntime) -> Result<(), Fail> {
     if let Ok(plan) = read_plan(alloc, "s0,r") {
         plans.push(plan)?;
     }
-    assert_eq!(rt; plans.len(), 1);
+    same(plans.len(), 1)?;
     let mut shelf = MemShelf::new(alloc, Vec::new(alloc));
     if plans.len() == 1 {
         let end = extract_direct(alloc, after_4_gib(alloc)?, plans, "out", &mut shelf);
-        assert_eq!(rt; end.outcome, ExtractOutcome::Done);
+        same(end.outcome, ExtractOutcome::Done)?;
     }
     let dump = b"\x01\0\0\0\0\0\0\0\x01\0\0\0\0\0\0\0\0\0\0\0\x04\xde\xad\xbe\xef";
-    assert!(rt; shelf.file(0) == Some(dump.as_slice()));
+    holds(shelf.file(0) == Some(dump.as_slice()))?;
     Ok(())
 }
 
@@ -292,7 +293,7 @@ fn what_is_too_large_is_refused_before_the_first_line(rt: HostRuntime) -> Result
         at: 52,
         size: 268_435_457,
     };
-    assert_eq!(rt; refused(alloc, long)?, Err(ListFault::Refused(at)));
+    same(refused(alloc, long)?, Err(ListFault::Refused(at)))?;
     let mut front = Bytes::from_slice(alloc, &FILE[..24])?;
     front.append(b"\0\0\0\x01mdat\0\0\0\0\x0c\0\0\x13")?;
     let mut back = Bytes::from_slice(alloc, &FILE[52..])?;
@@ -307,6 +308,6 @@ fn what_is_too_large_is_refused_before_the_first_line(rt: HostRuntime) -> Result
         sample: 0,
         size: 67_108_865,
     };
-    assert_eq!(rt; refused(alloc, large)?, Err(ListFault::Refused(first)));
+    same(refused(alloc, large)?, Err(ListFault::Refused(first)))?;
     Ok(())
 }

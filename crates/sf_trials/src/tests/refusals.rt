@@ -3,6 +3,7 @@
 use super::*;
 use sf_avc::{ConfigFault, NalFault};
 use sf_entry::{AscFault, SetupFault};
+use sf_list::same;
 use std::test::Fail;
 
 /// The input with some bytes put in place of its own.
@@ -61,9 +62,11 @@ fn each_refusal_of_a_header_names_its_field_and_makes_no_file(rt: HostRuntime) -
     for (changes, why, place) in rows {
         let ended = run_words(alloc, &["record", "a"], &changed(changes))?;
         let fault = TrackFault { why, place };
-        assert_eq!(rt; ended.status, Status::InputRefused { track: 0, fault });
-        assert!(rt; ended.shelf.file(0).is_none(), "at {place}");
-        assert_eq!(rt; ended.text.bytes(), line(alloc, place)?.as_bytes());
+        ended.gives(
+            Status::InputRefused { track: 0, fault },
+            line(alloc, place)?.as_bytes(),
+        )?;
+        same((place, ended.shelf.file(0).is_none()), (place, true))?;
     }
     Ok(())
 }
@@ -74,8 +77,8 @@ fn what_does_not_matter_for_sound_is_not_looked_at(rt: HostRuntime) -> Result<()
     let rows: [&[(usize, u8)]; 3] = [&[(12, 1), (13, 1)], &[(14, 1), (15, 1)], &[(25, 255)]];
     for changes in rows {
         let ended = run_words(rt.alloc(), &["record", "a"], &changed(changes))?;
-        assert_eq!(rt; ended.status, Status::Done);
-        assert_eq!(rt; only_size(&ended.shelf), Some(640));
+        ended.ends(Status::Done)?;
+        same(only_size(&ended.shelf), Some(640))?;
     }
     Ok(())
 }
@@ -153,9 +156,11 @@ fn each_refusal_of_a_record_keeps_the_samples_before_it(rt: HostRuntime) -> Resu
         let input = changed(changes);
         let ended = run_words(alloc, &["record", "a"], &input[..length])?;
         let fault = TrackFault { why, place };
-        assert_eq!(rt; ended.status, Status::InputRefused { track: 0, fault });
-        assert_eq!(rt; only_size(&ended.shelf), Some(size), "at {place}");
-        assert_eq!(rt; ended.text.bytes(), line(alloc, place)?.as_bytes());
+        ended.gives(
+            Status::InputRefused { track: 0, fault },
+            line(alloc, place)?.as_bytes(),
+        )?;
+        same((place, only_size(&ended.shelf)), (place, Some(size)))?;
     }
     Ok(())
 }
@@ -181,7 +186,7 @@ fn times_are_taken_up_to_their_bound(rt: HostRuntime) -> Result<(), Fail> {
                 fault: TrackFault { why, place },
             },
         };
-        assert_eq!(rt; ended.status, status);
+        ended.ends(status)?;
     }
     Ok(())
 }
@@ -195,11 +200,10 @@ fn nothing_follows_the_end(rt: HostRuntime) -> Result<(), Fail> {
         why: InputFault::Coded(CodedFault::Trailing { at: 103 }),
         place: 103,
     };
-    assert_eq!(rt; ended.status, Status::InputRefused { track: 0, fault });
-    assert_eq!(rt; only_size(&ended.shelf), Some(640));
-    assert_eq!(rt;
-        ended.text.bytes(),
-        b"input refused: track 0 at 103\n".as_slice()
-    );
+    ended.gives(
+        Status::InputRefused { track: 0, fault },
+        b"input refused: track 0 at 103\n".as_slice(),
+    )?;
+    same(only_size(&ended.shelf), Some(640))?;
     Ok(())
 }

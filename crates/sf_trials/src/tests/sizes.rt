@@ -2,6 +2,7 @@
 
 use super::inputs::FILE;
 use super::*;
+use sf_list::same;
 use std::test::Fail;
 
 // A sample's line begins with its track, and its number counts from 0.
@@ -21,16 +22,13 @@ fn many_samples_and_chunks_are_recorded_and_listed(rt: HostRuntime) -> Result<()
         }
         let input = input_of(alloc, &samples)?;
         let ended = run_words(alloc, &["record", "a"], &input)?;
-        assert_eq!(rt; ended.status, Status::Done);
+        ended.ends(Status::Done)?;
         let Some(file) = ended.shelf.file(0) else {
             return Err(Fail::from(ended.status));
         };
         let listed = run_words(alloc, &["list", "a"], file)?;
-        assert_eq!(rt; listed.status, Status::Done);
-        assert_eq!(rt;
-            samples_listed(listed.text.bytes()),
-            count.saturating_add(2)
-        );
+        same(listed.status, Status::Done)?;
+        same(samples_listed(listed.text.bytes()), count.saturating_add(2))?;
     }
     Ok(())
 }
@@ -44,7 +42,7 @@ fn many_boxes_are_passed_over(rt: HostRuntime) -> Result<(), Fail> {
         file.extend_from_slice(b"\0\0\0\x0cfreefree")?;
     }
     let ended = run_words(alloc, &["list", "a"], &file)?;
-    assert_eq!(rt; ended.status, Status::Done);
-    assert_eq!(rt; samples_listed(ended.text.bytes()), 5);
+    ended.ends(Status::Done)?;
+    same(samples_listed(ended.text.bytes()), 5)?;
     Ok(())
 }

@@ -1,6 +1,7 @@
 //! Recorded tables, byte by byte, and the list of the same file.
 
 use super::*;
+use sf_list::{holds, same};
 use std::test::Fail;
 
 /// A sample of an input: when it is decoded and when it is shown, in microseconds, whether it is a sync sample, and
@@ -142,15 +143,14 @@ fn each_table_is_written_and_listed(rt: HostRuntime) -> Result<(), Fail> {
     for row in &ROWS {
         let input = coded_file(alloc, row.scale, row.samples)?;
         let ended = run_words(alloc, &["record", "a"], &input)?;
-        assert_eq!(rt; ended.status, Status::Done);
+        ended.ends(Status::Done)?;
         let Some(file) = ended.shelf.file(0) else {
-            assert!(rt; false);
-            continue;
+            return Err("no file".into());
         };
-        assert!(rt; tables_of(file, stored_size(row.samples)) == Some(row.tables));
+        holds(tables_of(file, stored_size(row.samples)) == Some(row.tables))?;
         let listed = run_words(alloc, &["list", "a"], file)?;
-        assert_eq!(rt; listed.status, Status::Done);
-        assert_eq!(rt; listed.text.bytes(), row.lines);
+        same(listed.status, Status::Done)?;
+        same(listed.text.bytes(), row.lines)?;
     }
     Ok(())
 }

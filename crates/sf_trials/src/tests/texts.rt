@@ -4,6 +4,7 @@ ghost use Rattle.std.specs.Prelude.{◌≡◌, ◌^◌, ◌<◌, length, None};
 
 use super::inputs::FILE;
 use super::*;
+use sf_list::{holds, same};
 use sf_world::{Denied, Failed, Sink};
 use std::test::Fail;
 
@@ -76,8 +77,11 @@ fn each_answer_is_put_once_and_never_patched(rt: HostRuntime) -> Result<(), Fail
         let mut shelf = MemShelf::new(alloc, Vec::new(alloc));
         let mut text = CountedText::new(alloc, NEVER);
         let status = run(alloc, &words, &mut inputs, &mut shelf, &mut text);
-        assert!(rt; status != Status::NoMemory);
-        assert_eq!(rt; (text.appends, text.patches), (appends, 0), "{status:?}");
+        holds(status != Status::NoMemory)?;
+        same(
+            (status, (text.appends, text.patches)),
+            (status, (appends, 0)),
+        )?;
     }
     Ok(())
 }
@@ -99,8 +103,8 @@ fn a_text_without_memory_ends_each_answer(rt: HostRuntime) -> Result<(), Fail> {
         let mut shelf = MemShelf::new(alloc, Vec::new(alloc));
         let mut text = CountedText::new(alloc, denied);
         let status = run(alloc, &words, &mut inputs, &mut shelf, &mut text);
-        assert_eq!(rt; status, Status::NoMemory, "at {denied}");
-        assert_eq!(rt; text.bytes.as_slice(), said, "at {denied}");
+        same((denied, status), (denied, Status::NoMemory))?;
+        same((denied, text.bytes.as_slice()), (denied, said))?;
     }
     Ok(())
 }

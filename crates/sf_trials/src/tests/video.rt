@@ -3,6 +3,7 @@
 use super::*;
 use sf_avc::{ConfigFault, NalFault};
 use sf_entry::SetupFault;
+use sf_list::{holds, same};
 use std::test::Fail;
 
 /// The header of an input of video, of 39 bytes: two parameter sets, and neither a timescale nor a width and height.
@@ -104,20 +105,19 @@ fn video_is_recorded_and_listed(rt: HostRuntime) -> Result<(), Fail> {
     let alloc = rt.alloc();
     for row in &ROWS {
         let ended = run_words(alloc, &["record", "a"], &video_of(alloc, row.samples)?)?;
-        assert_eq!(rt; ended.status, Status::Done);
+        ended.ends(Status::Done)?;
         let Some(file) = ended.shelf.file(0) else {
-            assert!(rt; false);
-            continue;
+            return Err("no file".into());
         };
         let stored = row.stored.len();
         let tables = stored.saturating_add(543);
         let entry = tables.saturating_sub(114);
-        assert!(rt; file.get(40..stored.saturating_add(40)) == Some(row.stored));
-        assert!(rt; file.get(entry..tables) == Some(AVC_ENTRY.as_slice()));
-        assert!(rt; file.get(tables..file.len().saturating_sub(24)) == Some(row.tables));
+        holds(file.get(40..stored.saturating_add(40)) == Some(row.stored))?;
+        holds(file.get(entry..tables) == Some(AVC_ENTRY.as_slice()))?;
+        holds(file.get(tables..file.len().saturating_sub(24)) == Some(row.tables))?;
         let listed = run_words(alloc, &["list", "a"], file)?;
-        assert_eq!(rt; listed.status, Status::Done);
-        assert_eq!(rt; listed.text.bytes(), row.lines);
+        same(listed.status, Status::Done)?;
+        same(listed.text.bytes(), row.lines)?;
     }
     Ok(())
 }
@@ -131,13 +131,13 @@ fn a_payload_without_a_start_code_is_refused(rt: HostRuntime) -> Result<(), Fail
         why: InputFault::Sample(SampleFault::Nal(NalFault::NoStart)),
         place: 39,
     };
-    assert_eq!(rt; ended.status, Status::InputRefused { track: 0, fault });
+    ended.ends(Status::InputRefused { track: 0, fault })?;
     // The file of no samples.
-    assert_eq!(rt; only_size(&ended.shelf), Some(635));
-    assert_eq!(rt;
+    same(only_size(&ended.shelf), Some(635))?;
+    same(
         ended.text.bytes(),
-        b"input refused: track 0 at 39\n".as_slice()
-    );
+        b"input refused: track 0 at 39\n".as_slice(),
+    )?;
     Ok(())
 }
 
@@ -153,12 +153,11 @@ fn a_profile_of_which_no_entry_is_made_is_refused(rt: HostRuntime) -> Result<(),
         why: InputFault::Setup(SetupFault::Avc(ConfigFault::Profile(244))),
         place: 22,
     };
-    assert_eq!(rt; ended.status, Status::InputRefused { track: 0, fault });
-    assert!(rt; ended.shelf.file(0).is_none());
-    assert_eq!(rt;
-        ended.text.bytes(),
-        b"input refused: track 0 at 22\n".as_slice()
-    );
+    ended.gives(
+        Status::InputRefused { track: 0, fault },
+        b"input refused: track 0 at 22\n".as_slice(),
+    )?;
+    holds(ended.shelf.file(0).is_none())?;
     Ok(())
 }
 
@@ -177,19 +176,19 @@ fn a_longer_configuration_of_sound_is_kept_whole(rt: HostRuntime) -> Result<(), 
     input.extend_from_slice(b"\x11\x90\x56\xe5\0")?;
     input.extend_from_slice(&INPUT[24..])?;
     let ended = run_words(alloc, &["record", "a"], &input)?;
-    assert_eq!(rt; ended.status, Status::Done);
+    ended.ends(Status::Done)?;
     let Some(file) = ended.shelf.file(0) else {
         return Err(Fail::from(ended.status));
     };
-    assert_eq!(rt; file.len(), 643);
+    same(file.len(), 643)?;
     // Without the samples' 12 bytes the sample entry would begin at 425.
-    assert!(rt; file.get(437..527) == Some(AAC_ENTRY.as_slice()));
+    holds(file.get(437..527) == Some(AAC_ENTRY.as_slice()))?;
     let listed = run_words(alloc, &["list", "a"], file)?;
-    assert_eq!(rt;
+    same(
         listed.text.bytes(),
         b"start 0\ntrack 0 aac 48000 3 3 0\n\
             sample 0 0 0 0 1 4\nsample 0 1 1024 1024 1 4\nsample 0 2 2048 2048 1 4\n"
-            .as_slice()
-    );
+            .as_slice(),
+    )?;
     Ok(())
 }

@@ -1,6 +1,7 @@
 //! Words that no command takes.
 
 use super::*;
+use sf_list::{holds, same};
 use std::test::Fail;
 
 /// How many rows are refused so before the first that isn't.
@@ -15,7 +16,7 @@ fn refused(alloc: Global, rows: &[&[&str]], wanted: UsageFault) -> usize {
 }
 
 #[test]
-fn a_first_word_that_is_no_command_is_refused(rt: HostRuntime) {
+fn a_first_word_that_is_no_command_is_refused(rt: HostRuntime) -> Result<(), Fail> {
     let rows: [&[&str]; 7] = [
         &[],
         &[""],
@@ -25,11 +26,12 @@ fn a_first_word_that_is_no_command_is_refused(rt: HostRuntime) {
         &["--out", "x", "record", "a"],
         &["--", "record", "a"],
     ];
-    assert_eq!(rt; refused(rt.alloc(), &rows, UsageFault::Command), 7);
+    same(refused(rt.alloc(), &rows, UsageFault::Command), 7)?;
+    Ok(())
 }
 
 #[test]
-fn each_command_takes_its_count_of_words_and_none_is_empty(rt: HostRuntime) {
+fn each_command_takes_its_count_of_words_and_none_is_empty(rt: HostRuntime) -> Result<(), Fail> {
     let rows: [&[&str]; 15] = [
         &["record"],
         &["record", "--"],
@@ -47,11 +49,12 @@ fn each_command_takes_its_count_of_words_and_none_is_empty(rt: HostRuntime) {
         &["extract", "m", ""],
         &["make", "1", ""],
     ];
-    assert_eq!(rt; refused(rt.alloc(), &rows, UsageFault::Words), 15);
+    same(refused(rt.alloc(), &rows, UsageFault::Words), 15)?;
+    Ok(())
 }
 
 #[test]
-fn what_begins_like_an_option_must_be_one(rt: HostRuntime) {
+fn what_begins_like_an_option_must_be_one(rt: HostRuntime) -> Result<(), Fail> {
     let rows: [&[&str]; 14] = [
         &["record", "-a"],
         &["record", "a", "-", "-o"],
@@ -68,11 +71,12 @@ fn what_begins_like_an_option_must_be_one(rt: HostRuntime) {
         &["make", "1", "1", "--out", "x"],
         &["make", "1", "--", "--threads", "0"],
     ];
-    assert_eq!(rt; refused(rt.alloc(), &rows, UsageFault::Words), 14);
+    same(refused(rt.alloc(), &rows, UsageFault::Words), 14)?;
+    Ok(())
 }
 
 #[test]
-fn an_option_has_one_value(rt: HostRuntime) {
+fn an_option_has_one_value(rt: HostRuntime) -> Result<(), Fail> {
     let rows: [&[&str]; 11] = [
         &["record", "a", "--out"],
         &["record", "a", "--out", "-x"],
@@ -86,11 +90,12 @@ fn an_option_has_one_value(rt: HostRuntime) {
         &["extract", "m", "--low=1", "x", "--low=1"],
         &["make", "--threads=0", "1", "1", "--threads=0"],
     ];
-    assert_eq!(rt; refused(rt.alloc(), &rows, UsageFault::Words), 11);
+    same(refused(rt.alloc(), &rows, UsageFault::Words), 11)?;
+    Ok(())
 }
 
 #[test]
-fn a_number_is_1_to_20_digits_in_its_range(rt: HostRuntime) {
+fn a_number_is_1_to_20_digits_in_its_range(rt: HostRuntime) -> Result<(), Fail> {
     let rows: [&[&str]; 24] = [
         &["record", "a", "--threads", "+1"],
         &["record", "a", "--threads=-1"],
@@ -125,17 +130,19 @@ fn a_number_is_1_to_20_digits_in_its_range(rt: HostRuntime) {
         &["make", "+1", "1"],
         &["make", "1", "1", "--threads", "2"],
     ];
-    assert_eq!(rt; refused(rt.alloc(), &rows, UsageFault::Words), 24);
+    same(refused(rt.alloc(), &rows, UsageFault::Words), 24)?;
+    Ok(())
 }
 
 #[test]
-fn the_low_mark_is_not_above_the_high_one(rt: HostRuntime) {
+fn the_low_mark_is_not_above_the_high_one(rt: HostRuntime) -> Result<(), Fail> {
     let rows: [&[&str]; 3] = [
         &["extract", "m", "x", "--low", "20971521"],
         &["extract", "m", "x", "--high", "4194303"],
         &["extract", "m", "x", "--low", "5", "--high", "4"],
     ];
-    assert_eq!(rt; refused(rt.alloc(), &rows, UsageFault::Words), 3);
+    same(refused(rt.alloc(), &rows, UsageFault::Words), 3)?;
+    Ok(())
 }
 
 /// Whether a command takes so many words of one letter.
@@ -149,9 +156,9 @@ fn takes(alloc: Global, command: &str, count: usize) -> Result<bool, AllocError>
 
 #[test]
 fn sixteen_inputs_or_plans_are_the_most(rt: HostRuntime) -> Result<(), Fail> {
-    assert!(rt; takes(rt.alloc(), "record", 16)?);
-    assert!(rt; !takes(rt.alloc(), "record", 17)?);
-    assert!(rt; takes(rt.alloc(), "extract", 17)?);
-    assert!(rt; !takes(rt.alloc(), "extract", 18)?);
+    holds(takes(rt.alloc(), "record", 16)?)?;
+    holds(!takes(rt.alloc(), "record", 17)?)?;
+    holds(takes(rt.alloc(), "extract", 17)?)?;
+    holds(!takes(rt.alloc(), "extract", 18)?)?;
     Ok(())
 }

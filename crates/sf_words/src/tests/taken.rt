@@ -1,6 +1,8 @@
 //! Words that are taken, with what they ask for.
 
 use super::*;
+use sf_list::{holds, same};
+use std::test::Fail;
 
 /// Whether texts are these words.
 fn are(texts: &Items<Text>, words: &[&str]) -> bool {
@@ -52,7 +54,7 @@ fn recorded(alloc: Global, rows: &[Recorded<'_>]) -> usize {
 }
 
 #[test]
-fn inputs_are_recorded(rt: HostRuntime) {
+fn inputs_are_recorded(rt: HostRuntime) -> Result<(), Fail> {
     let rows: [Recorded<'_>; 13] = [
         (&["record", "a"], &["a"], Threads::Threaded, "out"),
         (
@@ -123,7 +125,8 @@ fn inputs_are_recorded(rt: HostRuntime) {
             "record",
         ),
     ];
-    assert_eq!(rt; recorded(rt.alloc(), &rows), 13);
+    same(recorded(rt.alloc(), &rows), 13)?;
+    Ok(())
 }
 
 /// The numbers that words ask of `record`.
@@ -135,7 +138,7 @@ fn numbers_of(alloc: Global, words: &[&str]) -> Option<RecordNumbers> {
 }
 
 #[test]
-fn the_numbers_of_record_are_read(rt: HostRuntime) {
+fn the_numbers_of_record_are_read(rt: HostRuntime) -> Result<(), Fail> {
     let words = [
         "record",
         "--start-us=281474976710656",
@@ -155,7 +158,8 @@ fn the_numbers_of_record_are_read(rt: HostRuntime) {
         max_duration_us: 7,
         max_files: 99_999,
     };
-    assert_eq!(rt; numbers_of(rt.alloc(), &words), Some(wanted));
+    same(numbers_of(rt.alloc(), &words), Some(wanted))?;
+    Ok(())
 }
 
 /// Whether words ask that plans be carried out on the movie `m`, with these numbers.
@@ -187,7 +191,7 @@ fn extracted(alloc: Global, rows: &[Extracted<'_>]) -> usize {
 }
 
 #[test]
-fn plans_are_carried_out(rt: HostRuntime) {
+fn plans_are_carried_out(rt: HostRuntime) -> Result<(), Fail> {
     let rows: [Extracted<'_>; 6] = [
         (&["extract", "m", "x"], &["x"], 400, 4_194_304, 20_971_520),
         (
@@ -226,7 +230,8 @@ fn plans_are_carried_out(rt: HostRuntime) {
             20_971_520,
         ),
     ];
-    assert_eq!(rt; extracted(rt.alloc(), &rows), 6);
+    same(extracted(rt.alloc(), &rows), 6)?;
+    Ok(())
 }
 
 /// Whether words ask that plans be carried out so, into dumps of this stem.
@@ -238,9 +243,10 @@ fn extracts_as(alloc: Global, words: &[&str], threads: Threads, out: &str) -> bo
 }
 
 #[test]
-fn an_extract_has_its_way_and_its_stem(rt: HostRuntime) {
+fn an_extract_has_its_way_and_its_stem(rt: HostRuntime) -> Result<(), Fail> {
     let words = ["extract", "--threads=0", "m", "--out", "d", "x"];
-    assert!(rt; extracts_as(rt.alloc(), &words, Threads::Serial, "d"));
+    holds(extracts_as(rt.alloc(), &words, Threads::Serial, "d"))?;
+    Ok(())
 }
 
 /// Whether words ask for the list of this movie.
@@ -252,10 +258,11 @@ fn lists(alloc: Global, words: &[&str], movie: &str) -> bool {
 }
 
 #[test]
-fn a_movie_is_listed(rt: HostRuntime) {
-    assert!(rt; lists(rt.alloc(), &["list", "m"], "m"));
-    assert!(rt; lists(rt.alloc(), &["list", "--", "-m"], "-m"));
-    assert!(rt; lists(rt.alloc(), &["list", "-"], "-"));
+fn a_movie_is_listed(rt: HostRuntime) -> Result<(), Fail> {
+    holds(lists(rt.alloc(), &["list", "m"], "m"))?;
+    holds(lists(rt.alloc(), &["list", "--", "-m"], "-m"))?;
+    holds(lists(rt.alloc(), &["list", "-"], "-"))?;
+    Ok(())
 }
 
 /// What words ask of `make`.
@@ -267,23 +274,24 @@ fn makes(alloc: Global, words: &[&str]) -> Option<MakeAsked> {
 }
 
 #[test]
-fn inputs_are_made(rt: HostRuntime) {
+fn inputs_are_made(rt: HostRuntime) -> Result<(), Fail> {
     let most = MakeAsked {
         count: 200_000,
         tracks: 8,
         threads: Threads::Threaded,
     };
-    assert_eq!(rt;
+    same(
         makes(rt.alloc(), &["make", "200000", "00000000000000000008"]),
-        Some(most)
-    );
+        Some(most),
+    )?;
     let none = MakeAsked {
         count: 0,
         tracks: 1,
         threads: Threads::Serial,
     };
-    assert_eq!(rt;
+    same(
         makes(rt.alloc(), &["make", "0", "--threads=0", "1"]),
-        Some(none)
-    );
+        Some(none),
+    )?;
+    Ok(())
 }

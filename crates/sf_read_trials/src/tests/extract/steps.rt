@@ -1,0 +1,66 @@
+//! The current sample, and what is handed out of it.
+
+use super::*;
+use sf_list::same;
+
+#[test]
+fn samples_come_one_after_the_other(rt: HostRuntime) -> Result<(), Fail> {
+    let movie = movie_of(rt.alloc(), &FILE)?;
+    let mut extractor = Extractor::new(rt.alloc(), &movie)?;
+    same(extractor.track(), None)?;
+    same(extractor.select(1), Err(NoTrack))?;
+    same(extractor.select(0), Ok(()))?;
+    same(extractor.track(), Some(0))?;
+    same(extractor.time_us(), Some(0))?;
+    same(extractor.flags(), Some(1))?;
+    same(extractor.place(), Some(Place { at: 40, len: 4 }))?;
+    same(extractor.advance(), true)?;
+    same(extractor.time_us(), Some(21_333))?;
+    same(extractor.place(), Some(Place { at: 44, len: 4 }))?;
+    same(extractor.advance(), true)?;
+    same(extractor.time_us(), Some(42_666))?;
+    same(extractor.advance(), false)?;
+    same(extractor.time_us(), None)?;
+    same(extractor.advance(), false)?;
+    Ok(())
+}
+
+// A track that is selected twice stays where it is, and one that is selected again after it was unselected
+// begins anew.
+#[test]
+fn selecting_again_changes_nothing(rt: HostRuntime) -> Result<(), Fail> {
+    let movie = movie_of(rt.alloc(), &FILE)?;
+    let mut extractor = Extractor::new(rt.alloc(), &movie)?;
+    same(extractor.select(0), Ok(()))?;
+    same(extractor.advance(), true)?;
+    same(extractor.select(0), Ok(()))?;
+    same(extractor.time_us(), Some(21_333))?;
+    same(extractor.unselect(0), Ok(()))?;
+    same(extractor.time_us(), None)?;
+    same(extractor.select(0), Ok(()))?;
+    same(extractor.time_us(), Some(0))?;
+    Ok(())
+}
+
+// What is handed out of the current sample, if these are so many bytes as it has.
+fn handed_out<'a>(alloc: Global, extractor: &Extractor<'a>, stored: &[u8]) -> Result<Bytes, Fail> {
+    let place = extractor.place().ok_or("no sample")?;
+    if stored.len() != place.len as usize {
+        return Err("other bytes".into());
+    }
+    let mut out = Bytes::from_slice(alloc, b"x")?;
+    match extractor.sample_bytes(stored, &mut out) {
+        Ok(_) => Ok(out),
+        Err(_) => Err("refused".into()),
+    }
+}
+
+#[test]
+fn sound_is_handed_out_as_stored(rt: HostRuntime) -> Result<(), Fail> {
+    let movie = movie_of(rt.alloc(), &FILE)?;
+    let mut extractor = Extractor::new(rt.alloc(), &movie)?;
+    same(extractor.select(0), Ok(()))?;
+    let out = handed_out(rt.alloc(), &extractor, b"\x21\x10\x04\x60")?;
+    same(out.as_slice(), b"x\x21\x10\x04\x60".as_slice())?;
+    Ok(())
+}
