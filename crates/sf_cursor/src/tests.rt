@@ -2,7 +2,7 @@
 
 use super::*;
 use sf_box::{FourCc, put_box};
-use sf_list::Bytes;
+use sf_list::{Bytes, holds};
 use std::alloc::{AllocError, Global};
 use std::test::Fail;
 
@@ -98,9 +98,23 @@ fn finds(cursor: &Cursor, bytes: u64, wanted: &[(u64, PlainSample)]) -> bool {
     }
 }
 
-/// That a file doesn't hold a sample of track 7.
-fn outside(sample: u64) -> Result<(), MovieFault> {
-    Err(MovieFault::SampleOutside { track: 7, sample })
+/// Nothing where a box has so many samples, which a file of so many bytes holds, those of these numbers among them.
+fn lists(
+    alloc: Global,
+    stbl: &Bytes,
+    count: u64,
+    bytes: u64,
+    wanted: &[(u64, PlainSample)],
+) -> Result<(), Fail> {
+    let cursor = cursor_of(alloc, stbl)?;
+    holds(cursor.count() == count && finds(&cursor, bytes, wanted))
+}
+
+/// Nothing where a file of so many bytes doesn't hold the sample of a number.
+fn ends_before(alloc: Global, stbl: &Bytes, bytes: u64, sample: u64) -> Result<(), Fail> {
+    let cursor = cursor_of(alloc, stbl)?;
+    let outside = MovieFault::SampleOutside { track: 7, sample };
+    holds(cursor.held(7, bytes) == Err(outside))
 }
 
 /// A sample, with its decode tick, composition tick, place and size, that is sync and has the first entry.

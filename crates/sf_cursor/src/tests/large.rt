@@ -1,7 +1,7 @@
 //! Large tables of each kind, and entries that stand past what they tell of.
 
 use super::*;
-use sf_list::{holds, same};
+use sf_list::same;
 
 /// So many samples.
 const COUNT: u32 = 3000;
@@ -76,15 +76,12 @@ fn each_table_may_have_an_entry_for_each_sample(rt: HostRuntime) -> Result<(), F
         (2998, sync(5996, 6001, 48_968, 1)),
         (2999, last),
     ];
-    let cursor = cursor_of(alloc, &stbl)?;
-    same(cursor.count(), 3000)?;
-    holds(finds(&cursor, 48_991, &wanted))?;
-    same(cursor.held(7, 48_990), outside(2999))?;
-    Ok(())
+    lists(alloc, &stbl, 3000, 48_991, &wanted)?;
+    ends_before(alloc, &stbl, 48_990, 2999)
 }
 
-/// A cursor over 3000 samples with these sizes, in one chunk at 100.
-fn of_sizes(alloc: Global, kind: FourCc, sizes: &[u8]) -> Result<Cursor, Fail> {
+/// Tables of 3000 samples with these sizes, in one chunk at 100.
+fn of_sizes(alloc: Global, kind: FourCc, sizes: &[u8]) -> Result<Bytes, AllocError> {
     let mut stbl = Bytes::new(alloc);
     put(alloc, &mut stbl, STTS, b"\0\0\0\x01\0\0\x0b\xb8\0\0\0\x02")?;
     put(alloc, &mut stbl, kind, sizes)?;
@@ -95,49 +92,47 @@ fn of_sizes(alloc: Global, kind: FourCc, sizes: &[u8]) -> Result<Cursor, Fail> {
         b"\0\0\0\x01\0\0\0\x01\0\0\x0b\xb8\0\0\0\x01",
     )?;
     put(alloc, &mut stbl, STCO, b"\0\0\0\x01\0\0\0\x64")?;
-    cursor_of(alloc, &stbl)
+    Ok(stbl)
 }
 
-/// Whether these sizes give this last sample, in a file that ends where it does, and not in one that ends before.
+/// Nothing where sizes, each pair of which is this one after some first bytes, give this last sample, in a file that ends where
+/// it does.
 fn gives_last(
     alloc: Global,
     kind: FourCc,
-    sizes: &[u8],
+    front: &[u8],
+    two: &[u8],
     last: PlainSample,
-    end: u64,
-) -> Result<bool, Fail> {
-    let cursor = of_sizes(alloc, kind, sizes)?;
-    let outside = cursor.held(7, end.saturating_sub(1)) == outside(2999);
-    Ok(outside && finds(&cursor, end, &[(2999, last)]))
+) -> Result<(), Fail> {
+    let sizes = pairs(alloc, front, two)?;
+    let stbl = of_sizes(alloc, kind, sizes.as_slice())?;
+    let end = last.place.saturating_add(u64::from(last.size));
+    lists(alloc, &stbl, 3000, end, &[(2999, last)])?;
+    ends_before(alloc, &stbl, end.saturating_sub(1), 2999)
 }
 
 #[test]
 fn sizes_of_few_bits_are_summed_up(rt: HostRuntime) -> Result<(), Fail> {
     // 1 and 2 in turn: before the last one stand 1500 of 1 and 1499 of 2.
-    let kind = FourCc(*b"stz2");
+    let alloc = rt.alloc();
     let last = sync(5998, 5998, 4598, 2);
-    let four = pairs(rt.alloc(), b"\0\0\0\x04", b"\x12")?;
-    holds(gives_last(rt.alloc(), kind, four.as_slice(), last, 4600)?)?;
-    let eight = pairs(rt.alloc(), b"\0\0\0\x08", b"\x01\x02")?;
-    holds(gives_last(rt.alloc(), kind, eight.as_slice(), last, 4600)?)?;
-    Ok(())
+    gives_last(alloc, FourCc(*b"stz2"), b"\0\0\0\x04", b"\x12", last)?;
+    gives_last(alloc, FourCc(*b"stz2"), b"\0\0\0\x08", b"\x01\x02", last)
 }
 
 #[test]
 fn sizes_of_many_bits_are_summed_up(rt: HostRuntime) -> Result<(), Fail> {
     // 257 and 258 in turn.
+    let alloc = rt.alloc();
     let last = sync(5998, 5998, 772_342, 258);
-    let sixteen = pairs(rt.alloc(), b"\0\0\0\x10", b"\x01\x01\x01\x02")?;
-    holds(gives_last(
-        rt.alloc(),
+    gives_last(
+        alloc,
         FourCc(*b"stz2"),
-        sixteen.as_slice(),
+        b"\0\0\0\x10",
+        b"\x01\x01\x01\x02",
         last,
-        772_600,
-    )?)?;
-    let each = pairs(rt.alloc(), b"\0\0\0\0", b"\0\0\x01\x01\0\0\x01\x02")?;
-    holds(gives_last(rt.alloc(), STSZ, each.as_slice(), last, 772_600)?)?;
-    Ok(())
+    )?;
+    gives_last(alloc, STSZ, b"\0\0\0\0", b"\0\0\x01\x01\0\0\x01\x02", last)
 }
 
 /// Tables of three samples. Chunk 1 has none, each from chunk 2 on the most, and from chunk 4,294,967,295 on an entry holds
@@ -153,12 +148,16 @@ fn entries_past_the_last_chunk_hold_no_samples(rt: HostRuntime) -> Result<(), Fa
     let alloc = rt.alloc();
     let wanted = [(0, sync(0, 0, 200, 10)), (2, sync(2048, 2048, 230, 30))];
     let stbl = with_far_entries(alloc, PLACES)?;
-    holds(finds(&cursor_of(alloc, &stbl)?, 260, &wanted))?;
-    let one_chunk = with_far_entries(alloc, b"\0\0\0\x01\0\0\0\x64")?;
+    lists(alloc, &stbl, 3, 260, &wanted)
+}
+
+#[test]
+fn an_entry_past_the_last_chunk_is_no_chunk(rt: HostRuntime) -> Result<(), Fail> {
+    let alloc = rt.alloc();
+    let stbl = with_far_entries(alloc, b"\0\0\0\x01\0\0\0\x64")?;
     let short = TableFault::Short {
         kind: STSC,
         at: 1056,
     };
-    same(read(alloc, &one_chunk)?.err(), Some(short))?;
-    Ok(())
+    same(read(alloc, &stbl)?.err(), Some(short))
 }

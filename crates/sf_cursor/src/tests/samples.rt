@@ -1,7 +1,6 @@
 //! The samples that tables list, one by one.
 
 use super::*;
-use sf_list::{holds, same};
 
 #[test]
 fn samples_lie_in_their_chunks(rt: HostRuntime) -> Result<(), Fail> {
@@ -12,12 +11,9 @@ fn samples_lie_in_their_chunks(rt: HostRuntime) -> Result<(), Fail> {
         (1, sync(1024, 1024, 110, 20)),
         (2, sync(2048, 2048, 200, 30)),
     ];
-    let cursor = cursor_of(alloc, &stbl)?;
-    same(cursor.count(), 3)?;
-    holds(finds(&cursor, 230, &wanted))?;
+    lists(alloc, &stbl, 3, 230, &wanted)?;
     // In a file of 229 bytes the last one doesn't lie.
-    same(cursor.held(7, 229), outside(2))?;
-    Ok(())
+    ends_before(alloc, &stbl, 229, 2)
 }
 
 #[test]
@@ -33,11 +29,8 @@ fn one_size_and_one_run_stand_for_many_samples(rt: HostRuntime) -> Result<(), Fa
         description: 2,
         ..sync(335_544_300, 335_544_300, 83_890_171, 5)
     };
-    let cursor = cursor_of(alloc, &stbl)?;
-    same(cursor.count(), 16_777_216)?;
-    holds(finds(&cursor, 83_890_176, &[(16_777_215, last)]))?;
-    same(cursor.held(7, 83_890_175), outside(16_777_215))?;
-    Ok(())
+    lists(alloc, &stbl, 16_777_216, 83_890_176, &[(16_777_215, last)])?;
+    ends_before(alloc, &stbl, 83_890_175, 16_777_215)
 }
 
 #[test]
@@ -52,9 +45,7 @@ fn offsets_that_are_missing_are_zero(rt: HostRuntime) -> Result<(), Fail> {
         (1, sync(1024, 1031, 110, 20)),
         (2, sync(2048, 2048, 200, 30)),
     ];
-    let cursor = cursor_of(alloc, &stbl)?;
-    holds(finds(&cursor, 1000, &wanted))?;
-    Ok(())
+    lists(alloc, &stbl, 3, u64::MAX, &wanted)
 }
 
 #[test]
@@ -71,9 +62,7 @@ fn sync_samples_are_numbered_from_1(rt: HostRuntime) -> Result<(), Fail> {
         (1, second),
         (2, sync(2048, 2048, 200, 30)),
     ];
-    let cursor = cursor_of(alloc, &stbl)?;
-    holds(finds(&cursor, 1000, &wanted))?;
-    Ok(())
+    lists(alloc, &stbl, 3, u64::MAX, &wanted)
 }
 
 #[test]
@@ -92,9 +81,7 @@ fn wide_places_and_compact_sizes_are_read(rt: HostRuntime) -> Result<(), Fail> {
         (1, sync(1024, 1024, 4_294_967_298, 2)),
         (2, sync(2048, 2048, 7, 3)),
     ];
-    let cursor = cursor_of(alloc, &stbl)?;
-    holds(finds(&cursor, u64::MAX, &wanted))?;
-    Ok(())
+    lists(alloc, &stbl, 3, u64::MAX, &wanted)
 }
 
 #[test]
@@ -120,8 +107,6 @@ fn a_sample_late_in_a_long_chunk_has_its_place(rt: HostRuntime) -> Result<(), Fa
         (16, sync(16_384, 16_384, 236, 17)),
         (39, sync(39_936, 39_936, 880, 40)),
     ];
-    let cursor = cursor_of(alloc, &stbl)?;
-    holds(finds(&cursor, 920, &wanted))?;
-    same(cursor.held(7, 919), outside(39))?;
-    Ok(())
+    lists(alloc, &stbl, 40, 920, &wanted)?;
+    ends_before(alloc, &stbl, 919, 39)
 }
