@@ -3,7 +3,7 @@ ghost use Rattle.sf_coded.specs.Progress.{EndsSo, HasRead};
 
 use super::*;
 use sf_box::{put_bytes, put_u16, put_u32, put_u64};
-use sf_list::{Bytes, holds, same};
+use sf_list::Bytes;
 use sf_tick::Kind;
 use sf_world::{MemSource, Source};
 use std::alloc::{AllocError, Global};
@@ -116,31 +116,31 @@ fn a_file_is_read_to_its_end(rt: HostRuntime) -> Result<(), Fail> {
     let alloc = rt.alloc();
     let source = MemSource::new(alloc, three_samples(alloc)?, Vec::new(alloc));
     let Ok(mut coded) = Coded::begin(alloc, source) else {
-        holds(false)?;
+        assert!(rt; false);
         return Ok(());
     };
-    same(coded.setup().kind, Kind::Aac)?;
-    same(coded.setup().channels, 2)?;
-    same(coded.setup().config.as_slice(), [0x11, 0x90].as_slice())?;
+    assert_eq!(rt; coded.setup().kind, Kind::Aac);
+    assert_eq!(rt; coded.setup().channels, 2);
+    assert_eq!(rt; coded.setup().config.as_slice(), [0x11, 0x90].as_slice());
     let mut at = 24;
     for time in [0, 21_333, 42_667] {
         let found = coded.next();
-        holds(matches!(&found, Ok(Some(_))))?;
+        assert!(rt; matches!(&found, Ok(Some(_))));
         if let Ok(Some(found)) = found {
-            same(found.at, at)?;
-            same(found.sample.dts_us, time)?;
-            same(found.sample.pts_us, time)?;
-            holds(found.sample.sync)?;
-            same(
+            assert_eq!(rt; found.at, at);
+            assert_eq!(rt; found.sample.dts_us, time);
+            assert_eq!(rt; found.sample.pts_us, time);
+            assert!(rt; found.sample.sync);
+            assert_eq!(rt;
                 found.sample.bytes.as_slice(),
-                [0x21, 0x10, 4, 0x60].as_slice(),
-            )?;
+                [0x21, 0x10, 4, 0x60].as_slice()
+            );
             at = found.at.saturating_add(26);
         }
     }
-    holds(matches!(coded.next(), Ok(None)))?;
-    holds(matches!(coded.next(), Ok(None)))?;
-    same(coded.give_source().count(), 0)?;
+    assert!(rt; matches!(coded.next(), Ok(None)));
+    assert!(rt; matches!(coded.next(), Ok(None)));
+    assert_eq!(rt; coded.give_source().count(), 0);
     Ok(())
 }
 
@@ -158,7 +158,7 @@ fn a_file_cut_at_any_byte_is_truncated_there(rt: HostRuntime) -> Result<(), Fail
             76..102 => ends(2, truncated),
             _ => ends(3, truncated),
         };
-        same(outcome_of(alloc, bytes), wanted)?;
+        assert_eq!(rt; outcome_of(alloc, bytes), wanted);
     }
     Ok(())
 }
@@ -166,34 +166,37 @@ fn a_file_cut_at_any_byte_is_truncated_there(rt: HostRuntime) -> Result<(), Fail
 #[test]
 fn each_refusal_of_a_header_names_its_field(rt: HostRuntime) -> Result<(), Fail> {
     let alloc = rt.alloc();
-    same(patched(alloc, 3, b"T")?, refused(CodedFault::Magic))?;
-    same(patched(alloc, 4, &[0, 0])?, refused(CodedFault::Version(0)))?;
-    same(
+    assert_eq!(rt; patched(alloc, 3, b"T")?, refused(CodedFault::Magic));
+    assert_eq!(rt;
+        patched(alloc, 4, &[0, 0])?,
+        refused(CodedFault::Version(0))
+    );
+    assert_eq!(rt;
         patched(alloc, 4, &[1, 1])?,
-        refused(CodedFault::Version(257)),
-    )?;
-    same(
+        refused(CodedFault::Version(257))
+    );
+    assert_eq!(rt;
         patched(alloc, 6, &[0, 0])?,
-        refused(CodedFault::KindCode(0)),
-    )?;
-    same(
+        refused(CodedFault::KindCode(0))
+    );
+    assert_eq!(rt;
         patched(alloc, 6, &[0, 3])?,
-        refused(CodedFault::KindCode(3)),
-    )?;
-    same(
+        refused(CodedFault::KindCode(3))
+    );
+    assert_eq!(rt;
         patched(alloc, 18, &[0, 1, 0, 1])?,
-        refused(CodedFault::ConfigTooLong { len: 65_537 }),
-    )?;
-    same(
+        refused(CodedFault::ConfigTooLong { len: 65_537 })
+    );
+    assert_eq!(rt;
         patched(alloc, 18, &[0, 1, 0, 0])?,
-        refused(CodedFault::Truncated { at: 103 }),
-    )?;
-    same(CodedFault::Version(257).place(), 4)?;
+        refused(CodedFault::Truncated { at: 103 })
+    );
+    assert_eq!(rt; CodedFault::Version(257).place(), 4);
     // The first refusal in the file's order counts.
-    same(
+    assert_eq!(rt;
         patched(alloc, 0, &[0, 0, 0, 0, 0, 0, 0, 0])?,
-        refused(CodedFault::Magic),
-    )?;
+        refused(CodedFault::Magic)
+    );
     Ok(())
 }
 
@@ -201,54 +204,54 @@ fn each_refusal_of_a_header_names_its_field(rt: HostRuntime) -> Result<(), Fail>
 fn each_refusal_of_a_record_names_its_tag(rt: HostRuntime) -> Result<(), Fail> {
     let alloc = rt.alloc();
     for tag in 2..=255u8 {
-        same(
+        assert_eq!(rt;
             patched(alloc, 50, &[tag])?,
-            ends(1, CodedFault::Tag { at: 50, tag }),
-        )?;
+            ends(1, CodedFault::Tag { at: 50, tag })
+        );
     }
-    same(
+    assert_eq!(rt;
         patched(alloc, 50, &[0])?,
-        ends(1, CodedFault::Trailing { at: 51 }),
-    )?;
-    same(
+        ends(1, CodedFault::Trailing { at: 51 })
+    );
+    assert_eq!(rt;
         patched(alloc, 42, &[0, 0, 0, 0])?,
-        ends(0, CodedFault::Empty { at: 24 }),
-    )?;
+        ends(0, CodedFault::Empty { at: 24 })
+    );
     // One byte of payload, and then the second one as a tag.
-    same(
+    assert_eq!(rt;
         patched(alloc, 42, &[0, 0, 0, 1])?,
-        ends(1, CodedFault::Tag { at: 47, tag: 16 }),
-    )?;
-    same(
+        ends(1, CodedFault::Tag { at: 47, tag: 16 })
+    );
+    assert_eq!(rt;
         patched(alloc, 42, &[1, 0, 0, 0])?,
-        ends(0, CodedFault::Truncated { at: 103 }),
-    )?;
-    same(
+        ends(0, CodedFault::Truncated { at: 103 })
+    );
+    assert_eq!(rt;
         patched(alloc, 42, &[1, 0, 0, 1])?,
         ends(
             0,
             CodedFault::TooLong {
                 at: 24,
-                len: 16_777_217,
-            },
-        ),
-    )?;
-    same(
+                len: 16_777_217
+            }
+        )
+    );
+    assert_eq!(rt;
         patched(alloc, 42, &[255; 4])?,
         ends(
             0,
             CodedFault::TooLong {
                 at: 24,
-                len: u32::MAX,
-            },
-        ),
-    )?;
+                len: u32::MAX
+            }
+        )
+    );
     let mut bytes = three_samples(alloc)?;
     put_bytes(&mut bytes, &[0])?;
-    same(
+    assert_eq!(rt;
         outcome_of(alloc, bytes),
-        ends(3, CodedFault::Trailing { at: 103 }),
-    )?;
+        ends(3, CodedFault::Trailing { at: 103 })
+    );
     Ok(())
 }
 
@@ -276,19 +279,19 @@ fn payloads_are_whole_however_the_block_falls(rt: HostRuntime) -> Result<(), Fai
     put_bytes(&mut bytes, &[0])?;
     let source = MemSource::new(alloc, bytes, Vec::new(alloc));
     let Ok(mut coded) = Coded::begin(alloc, source) else {
-        holds(false)?;
+        assert!(rt; false);
         return Ok(());
     };
-    same(coded.setup().config.as_slice(), config.as_slice())?;
+    assert_eq!(rt; coded.setup().config.as_slice(), config.as_slice());
     for len in lens {
         let found = coded.next();
-        holds(matches!(&found, Ok(Some(_))))?;
+        assert!(rt; matches!(&found, Ok(Some(_))));
         if let Ok(Some(found)) = found {
-            same(found.sample.dts_us, len as u64)?;
-            holds(found.sample.bytes.as_slice() == pattern(alloc, len)?.as_slice())?;
+            assert_eq!(rt; found.sample.dts_us, len as u64);
+            assert!(rt; found.sample.bytes.as_slice() == pattern(alloc, len)?.as_slice());
         }
     }
-    holds(matches!(coded.next(), Ok(None)))?;
+    assert!(rt; matches!(coded.next(), Ok(None)));
     Ok(())
 }
 
@@ -303,7 +306,7 @@ fn a_payload_may_have_16_777_216_bytes(rt: HostRuntime) -> Result<(), Fail> {
         samples: Some(1),
         end: None,
     };
-    same(outcome_of(alloc, bytes), wanted)?;
+    assert_eq!(rt; outcome_of(alloc, bytes), wanted);
     Ok(())
 }
 
@@ -337,19 +340,19 @@ fn after_a_failed_read_nothing_is_lost(rt: HostRuntime) -> Result<(), Fail> {
         end: None,
     };
     let fault = CodedFault::ReadFault;
-    same(
+    assert_eq!(rt;
         with_a_failing_read(alloc, 0)?,
-        (refused(fault), refused(fault), 1),
-    )?;
-    same(
+        (refused(fault), refused(fault), 1)
+    );
+    assert_eq!(rt;
         with_a_failing_read(alloc, 1)?,
-        (ends(1, fault), behind(2), 1),
-    )?;
-    same(
+        (ends(1, fault), behind(2), 1)
+    );
+    assert_eq!(rt;
         with_a_failing_read(alloc, 2)?,
-        (ends(2, fault), behind(1), 1),
-    )?;
-    same(with_a_failing_read(alloc, 3)?, (whole, behind(0), 0))?;
+        (ends(2, fault), behind(1), 1)
+    );
+    assert_eq!(rt; with_a_failing_read(alloc, 3)?, (whole, behind(0), 0));
     Ok(())
 }
 
@@ -379,7 +382,7 @@ fn the_samples_together_are_those_of_the_file(rt: HostRuntime) -> Result<(), Fai
     let source = MemSource::new(alloc, three_samples(alloc)?, Vec::new(alloc));
     if let Ok(mut coded) = Coded::begin(alloc, source) {
         let samples = all_samples(alloc, &mut coded);
-        holds(matches!(&samples, Ok(found) if found.len() == 3))?;
+        assert!(rt; matches!(&samples, Ok(found) if found.len() == 3));
     }
     Ok(())
 }
@@ -396,7 +399,7 @@ fn a_coded_file_can_be_read_in_another_thread(rt: HostRuntime) -> Result<(), Fai
         alloc,
         MemSource::new(alloc, three_samples(alloc)?, Vec::new(alloc)),
     ) {
-        holds(is_sent(&coded))?;
+        assert!(rt; is_sent(&coded));
     }
     Ok(())
 }

@@ -7,7 +7,7 @@ use super::*;
 use sf_coded::{Coded, CodedFault};
 use sf_entry::make_entry;
 use sf_gather::{Options, SampleFault};
-use sf_list::{Bytes, holds, same};
+use sf_list::Bytes;
 use sf_world::{MemSource, Source};
 use std::alloc::{AllocError, Global};
 use std::test::Fail;
@@ -157,7 +157,7 @@ fn samples_within_the_interleave_are_one_chunk(rt: HostRuntime) -> Result<(), Fa
     let alloc = rt.alloc();
     let bytes = input(alloc, &[0, 21_333, 42_667])?;
     let found = outcome(alloc, bytes, Vec::new(alloc), 1_000_000)?;
-    holds(is_so(&found, &[3], None))?;
+    assert!(rt; is_so(&found, &[3], None));
     Ok(())
 }
 
@@ -166,7 +166,7 @@ fn without_interleave_each_sample_is_a_chunk(rt: HostRuntime) -> Result<(), Fail
     let alloc = rt.alloc();
     let bytes = input(alloc, &[0, 21_333, 42_667])?;
     let found = outcome(alloc, bytes, Vec::new(alloc), 0)?;
-    holds(is_so(&found, &[1, 1, 1], None))?;
+    assert!(rt; is_so(&found, &[1, 1, 1], None));
     Ok(())
 }
 
@@ -174,7 +174,7 @@ fn without_interleave_each_sample_is_a_chunk(rt: HostRuntime) -> Result<(), Fail
 fn an_input_without_samples_is_one_empty_chunk(rt: HostRuntime) -> Result<(), Fail> {
     let alloc = rt.alloc();
     let found = outcome(alloc, input(alloc, &[])?, Vec::new(alloc), 0)?;
-    holds(is_so(&found, &[0], None))?;
+    assert!(rt; is_so(&found, &[0], None));
     Ok(())
 }
 
@@ -184,7 +184,7 @@ fn a_refused_sample_is_told_with_the_place_of_its_tag(rt: HostRuntime) -> Result
     let bytes = input(alloc, &[5, 21_333, 21_332, 42_667])?;
     let found = outcome(alloc, bytes, Vec::new(alloc), 1_000_000)?;
     let falls = SampleFault::Falls { last_us: 21_333 };
-    holds(is_so(&found, &[2], sample_fault(falls, 76)))?;
+    assert!(rt; is_so(&found, &[2], sample_fault(falls, 76)));
     Ok(())
 }
 
@@ -194,10 +194,10 @@ fn times_are_taken_up_to_the_greatest(rt: HostRuntime) -> Result<(), Fail> {
     let greatest = 281_474_976_710_656;
     let bytes = input(alloc, &[greatest])?;
     let found = outcome(alloc, bytes, Vec::new(alloc), 1_000_000)?;
-    holds(is_so(&found, &[1], None))?;
+    assert!(rt; is_so(&found, &[1], None));
     let bytes = input(alloc, &[0, greatest + 1, 5])?;
     let found = outcome(alloc, bytes, Vec::new(alloc), 1_000_000)?;
-    holds(is_so(&found, &[1], sample_fault(SampleFault::TimeTooLarge, 50)))?;
+    assert!(rt; is_so(&found, &[1], sample_fault(SampleFault::TimeTooLarge, 50)));
     Ok(())
 }
 
@@ -208,7 +208,7 @@ fn a_truncated_input_gives_the_samples_before(rt: HostRuntime) -> Result<(), Fai
     bytes.cut(90);
     let found = outcome(alloc, bytes, Vec::new(alloc), 1_000_000)?;
     let truncated = CodedFault::Truncated { at: 90 };
-    holds(is_so(&found, &[2], coded_fault(truncated, 90)))?;
+    assert!(rt; is_so(&found, &[2], coded_fault(truncated, 90)));
     Ok(())
 }
 
@@ -220,10 +220,11 @@ fn a_sample_before_the_start_is_refused(rt: HostRuntime) -> Result<(), Fail> {
         interleave_us: 0,
     };
     let Some(mut pump) = pump_of(alloc, input(alloc, &[5])?, Vec::new(alloc), options) else {
-        return Err("no pump".into());
+        assert!(rt; false);
+        return Ok(());
     };
     let found = Some(run_out(alloc, &mut pump)?);
-    holds(is_so(&found, &[0], sample_fault(SampleFault::BeforeStart, 24)))?;
+    assert!(rt; is_so(&found, &[0], sample_fault(SampleFault::BeforeStart, 24)));
     Ok(())
 }
 
@@ -235,7 +236,7 @@ fn a_composition_time_above_the_greatest_is_refused(rt: HostRuntime) -> Result<(
     // The decode time would fall, which is looked at later.
     put_sample(&mut bytes, (3, 281_474_976_710_657), [0, 0, 0, 1], &[9])?;
     let found = outcome(alloc, bytes, Vec::new(alloc), 0)?;
-    holds(is_so(&found, &[1], sample_fault(SampleFault::TimeTooLarge, 50)))?;
+    assert!(rt; is_so(&found, &[1], sample_fault(SampleFault::TimeTooLarge, 50)));
     Ok(())
 }
 
@@ -249,11 +250,12 @@ fn a_failed_read_is_kept_behind_the_samples_before_it(rt: HostRuntime) -> Result
     put_sample(&mut bytes, (1, 1), [0, 1, 0x11, 0x70], payload.as_slice())?;
     bytes.append(&[0])?;
     let Some(mut pump) = pump_of(alloc, bytes, vec![in alloc; 1]?, options(1_000_000)) else {
-        return Err("no pump".into());
+        assert!(rt; false);
+        return Ok(());
     };
     let found = Some(run_out(alloc, &mut pump)?);
-    holds(is_so(&found, &[1], coded_fault(CodedFault::ReadFault, 0)))?;
-    same(pump.give_source().count(), 1)?;
+    assert!(rt; is_so(&found, &[1], coded_fault(CodedFault::ReadFault, 0)));
+    assert_eq!(rt; pump.give_source().count(), 1);
     Ok(())
 }
 
@@ -262,30 +264,31 @@ fn each_step_says_how_the_pump_stands(rt: HostRuntime) -> Result<(), Fail> {
     let alloc = rt.alloc();
     let bytes = input(alloc, &[5, 6])?;
     let Some(mut pump) = pump_of(alloc, bytes, Vec::new(alloc), options(0)) else {
-        return Err("no pump".into());
+        assert!(rt; false);
+        return Ok(());
     };
-    holds(pump.take_chunk().is_none())?;
-    same(pump.step(), Stepped::Moved)?;
-    holds(pump.take_chunk().is_none())?;
-    same(pump.step(), Stepped::HasChunk)?;
-    same(pump.step(), Stepped::HasChunk)?;
+    assert!(rt; pump.take_chunk().is_none());
+    assert_eq!(rt; pump.step(), Stepped::Moved);
+    assert!(rt; pump.take_chunk().is_none());
+    assert_eq!(rt; pump.step(), Stepped::HasChunk);
+    assert_eq!(rt; pump.step(), Stepped::HasChunk);
     if let Some(chunk) = pump.take_chunk() {
-        same(
+        assert_eq!(rt;
             (chunk.track, chunk.number, chunk.first_us, chunk.last),
-            (3, 0, 5, false),
-        )?;
+            (3, 0, 5, false)
+        );
     }
-    same(pump.step(), Stepped::HasChunk)?;
+    assert_eq!(rt; pump.step(), Stepped::HasChunk);
     if let Some(chunk) = pump.take_chunk() {
-        same(
+        assert_eq!(rt;
             (chunk.track, chunk.number, chunk.first_us, chunk.last),
-            (3, 1, 6, true),
-        )?;
+            (3, 1, 6, true)
+        );
     }
-    same(pump.step(), Stepped::Done)?;
-    holds(pump.take_chunk().is_none())?;
-    same(pump.step(), Stepped::Done)?;
-    holds(pump.fault().is_none())?;
+    assert_eq!(rt; pump.step(), Stepped::Done);
+    assert!(rt; pump.take_chunk().is_none());
+    assert_eq!(rt; pump.step(), Stepped::Done);
+    assert!(rt; pump.fault().is_none());
     Ok(())
 }
 
@@ -294,13 +297,14 @@ fn a_pump_that_is_ended_early_gives_what_it_has(rt: HostRuntime) -> Result<(), F
     let alloc = rt.alloc();
     let bytes = input(alloc, &[0, 1, 0])?;
     let Some(mut pump) = pump_of(alloc, bytes, Vec::new(alloc), options(1_000)) else {
-        return Err("no pump".into());
+        assert!(rt; false);
+        return Ok(());
     };
-    same(pump.step(), Stepped::Moved)?;
-    holds(pump.take_chunk().is_none())?;
+    assert_eq!(rt; pump.step(), Stepped::Moved);
+    assert!(rt; pump.take_chunk().is_none());
     pump.end_early();
     let found = Some(run_out(alloc, &mut pump)?);
-    holds(is_so(&found, &[1], None))?;
+    assert!(rt; is_so(&found, &[1], None));
     Ok(())
 }
 
@@ -309,16 +313,17 @@ fn a_last_chunk_that_was_made_is_not_made_again(rt: HostRuntime) -> Result<(), F
     let alloc = rt.alloc();
     let bytes = input(alloc, &[1, 0])?;
     let Some(mut pump) = pump_of(alloc, bytes, Vec::new(alloc), options(1_000)) else {
-        return Err("no pump".into());
+        assert!(rt; false);
+        return Ok(());
     };
     let falls = sample_fault(SampleFault::Falls { last_us: 1 }, 50);
     let found = Some(run_out(alloc, &mut pump)?);
-    holds(is_so(&found, &[1], falls))?;
+    assert!(rt; is_so(&found, &[1], falls));
     if pump.take_chunk().is_none() {
         pump.end_early();
     }
-    same(pump.step(), Stepped::Done)?;
-    same(pump.fault().copied(), falls)?;
+    assert_eq!(rt; pump.step(), Stepped::Done);
+    assert_eq!(rt; pump.fault().copied(), falls);
     Ok(())
 }
 
@@ -331,7 +336,7 @@ fn is_sent<T: Send>(_value: &T) -> bool {
 fn a_pump_can_be_stepped_in_another_thread(rt: HostRuntime) -> Result<(), Fail> {
     let alloc = rt.alloc();
     if let Some(pump) = pump_of(alloc, input(alloc, &[])?, Vec::new(alloc), options(0)) {
-        holds(is_sent(&pump))?;
+        assert!(rt; is_sent(&pump));
     }
     Ok(())
 }

@@ -1,7 +1,6 @@
 //! The bytes of whole files.
 
 use super::*;
-use sf_list::{holds, same};
 
 /// A file of one chunk of three samples, which begins at 40. It lasts 3072 ticks (0xC00), which are
 /// 64000 microseconds (0xFA00).
@@ -45,7 +44,7 @@ fn of_sound(alloc: Global, chunks: &[Written<'_>]) -> Result<Bytes, Stop> {
 #[test]
 fn a_file_of_one_chunk_has_these_bytes(rt: HostRuntime) -> Result<(), Fail> {
     let bytes = of_sound(rt.alloc(), &[(0, &THREE)])?;
-    same(bytes.as_slice(), ONE_CHUNK.as_slice())?;
+    assert_eq!(rt; bytes.as_slice(), ONE_CHUNK.as_slice());
     Ok(())
 }
 
@@ -53,15 +52,17 @@ fn a_file_of_one_chunk_has_these_bytes(rt: HostRuntime) -> Result<(), Fail> {
 #[test]
 fn an_empty_file_has_a_movie_box_of_564_bytes(rt: HostRuntime) -> Result<(), Fail> {
     let bytes = of_sound(rt.alloc(), &[])?;
-    same(bytes.len(), 604)?;
-    holds(stand_at(
-        bytes.as_slice(),
-        24,
-        b"\0\0\0\x01mdat\0\0\0\0\0\0\0\x10\0\0\x02\x34moov",
-    ))?;
+    assert_eq!(rt; bytes.len(), 604);
+    assert!(rt;
+        stand_at(
+            bytes.as_slice(),
+            24,
+            b"\0\0\0\x01mdat\0\0\0\0\0\0\0\x10\0\0\x02\x34moov"
+        )
+    );
     // Neither the movie nor its track lasts, and the file starts at 0.
-    holds(stand_at(bytes.as_slice(), 68, b"\0\x0F\x42\x40\0\0\0\0\0\x01"))?;
-    holds(stand_at(bytes.as_slice(), 588, b"\0\0\0\x10sfts\0\0\0\0\0\0\0\0"))?;
+    assert!(rt; stand_at(bytes.as_slice(), 68, b"\0\x0F\x42\x40\0\0\0\0\0\x01"));
+    assert!(rt; stand_at(bytes.as_slice(), 588, b"\0\0\0\x10sfts\0\0\0\0\0\0\0\0"));
     Ok(())
 }
 
@@ -72,12 +73,12 @@ fn each_chunk_stands_after_the_one_before_it(rt: HostRuntime) -> Result<(), Fail
     let later = [(64_000, 3072), (85_333, 4096)];
     let bytes = of_sound(rt.alloc(), &[(0, &THREE), (0, &later)])?;
     // stsc has another 12 bytes, stco another 4.
-    same(bytes.len(), 640 + 8 + 12 + 4)?;
-    holds(stand_at(bytes.as_slice(), 32, b"\0\0\0\0\0\0\0\x24"))?;
-    holds(stand_at(bytes.as_slice(), 52, &SAMPLE))?;
-    holds(stand_at(bytes.as_slice(), 60, b"\0\0\x02\x5Cmoov"))?;
+    assert_eq!(rt; bytes.len(), 640 + 8 + 12 + 4);
+    assert!(rt; stand_at(bytes.as_slice(), 32, b"\0\0\0\0\0\0\0\x24"));
+    assert!(rt; stand_at(bytes.as_slice(), 52, &SAMPLE));
+    assert!(rt; stand_at(bytes.as_slice(), 60, b"\0\0\x02\x5Cmoov"));
     let places = b"\0\0\0\x18stco\0\0\0\0\0\0\0\x02\0\0\0\x28\0\0\0\x34\0\0\0\x18udta";
-    holds(stand_at(bytes.as_slice(), 616, places))?;
+    assert!(rt; stand_at(bytes.as_slice(), 616, places));
     Ok(())
 }
 
@@ -88,14 +89,16 @@ fn a_file_starts_with_its_first_sample(rt: HostRuntime) -> Result<(), Fail> {
         rt.alloc(),
         &[(0, &[(1_000_000, 48_000), (1_021_333, 49_024)])],
     )?;
-    same(bytes.len(), 636)?;
-    holds(stand_at(
-        bytes.as_slice(),
-        620,
-        b"\0\0\0\x10sfts\0\0\0\0\0\x0F\x42\x40",
-    ))?;
+    assert_eq!(rt; bytes.len(), 636);
+    assert!(rt;
+        stand_at(
+            bytes.as_slice(),
+            620,
+            b"\0\0\0\x10sfts\0\0\0\0\0\x0F\x42\x40"
+        )
+    );
     // It lasts 2048 ticks, which are 42666 microseconds.
-    holds(stand_at(bytes.as_slice(), 76, b"\0\x0F\x42\x40\0\0\xA6\xAA"))?;
+    assert!(rt; stand_at(bytes.as_slice(), 76, b"\0\x0F\x42\x40\0\0\xA6\xAA"));
     Ok(())
 }
 
@@ -111,25 +114,29 @@ fn in_microseconds(alloc: Global, second: u64, third: u64) -> Result<Bytes, Stop
 #[test]
 fn a_long_file_has_headers_of_version_1(rt: HostRuntime) -> Result<(), Fail> {
     let longest = in_microseconds(rt.alloc(), 2, 1 << 31)?;
-    same(longest.len(), 40 + 12 + 596)?;
-    holds(stand_at(longest.as_slice(), 60, b"\0\0\0\x6Cmvhd\0"))?;
-    holds(stand_at(
-        longest.as_slice(),
-        80,
-        b"\0\x0F\x42\x40\xFF\xFF\xFF\xFE\0\x01",
-    ))?;
-    holds(stand_at(longest.as_slice(), 176, b"\0\0\0\x5Ctkhd\0"))?;
-    holds(stand_at(longest.as_slice(), 276, b"\0\0\0\x20mdhd\0"))?;
+    assert_eq!(rt; longest.len(), 40 + 12 + 596);
+    assert!(rt; stand_at(longest.as_slice(), 60, b"\0\0\0\x6Cmvhd\0"));
+    assert!(rt;
+        stand_at(
+            longest.as_slice(),
+            80,
+            b"\0\x0F\x42\x40\xFF\xFF\xFF\xFE\0\x01"
+        )
+    );
+    assert!(rt; stand_at(longest.as_slice(), 176, b"\0\0\0\x5Ctkhd\0"));
+    assert!(rt; stand_at(longest.as_slice(), 276, b"\0\0\0\x20mdhd\0"));
     let longer = in_microseconds(rt.alloc(), 1, 1 << 31)?;
-    same(longer.len(), 40 + 12 + 596 + 36)?;
-    holds(stand_at(longer.as_slice(), 60, b"\0\0\0\x78mvhd\x01"))?;
-    holds(stand_at(
-        longer.as_slice(),
-        88,
-        b"\0\x0F\x42\x40\0\0\0\0\xFF\xFF\xFF\xFF\0\x01",
-    ))?;
-    holds(stand_at(longer.as_slice(), 188, b"\0\0\0\x68tkhd\x01"))?;
-    holds(stand_at(longer.as_slice(), 300, b"\0\0\0\x2Cmdhd\x01"))?;
+    assert_eq!(rt; longer.len(), 40 + 12 + 596 + 36);
+    assert!(rt; stand_at(longer.as_slice(), 60, b"\0\0\0\x78mvhd\x01"));
+    assert!(rt;
+        stand_at(
+            longer.as_slice(),
+            88,
+            b"\0\x0F\x42\x40\0\0\0\0\xFF\xFF\xFF\xFF\0\x01"
+        )
+    );
+    assert!(rt; stand_at(longer.as_slice(), 188, b"\0\0\0\x68tkhd\x01"));
+    assert!(rt; stand_at(longer.as_slice(), 300, b"\0\0\0\x2Cmdhd\x01"));
     Ok(())
 }
 
@@ -137,9 +144,9 @@ fn a_long_file_has_headers_of_version_1(rt: HostRuntime) -> Result<(), Fail> {
 #[test]
 fn each_header_is_long_by_its_own_ticks(rt: HostRuntime) -> Result<(), Fail> {
     let bytes = of_sound(rt.alloc(), &[(0, &[(0, 0), (1 << 32, 206_158_430)])])?;
-    same(bytes.len(), 40 + 8 + 588 + 24)?;
-    holds(stand_at(bytes.as_slice(), 56, b"\0\0\0\x78mvhd\x01"))?;
-    holds(stand_at(bytes.as_slice(), 184, b"\0\0\0\x68tkhd\x01"))?;
-    holds(stand_at(bytes.as_slice(), 296, b"\0\0\0\x20mdhd\0"))?;
+    assert_eq!(rt; bytes.len(), 40 + 8 + 588 + 24);
+    assert!(rt; stand_at(bytes.as_slice(), 56, b"\0\0\0\x78mvhd\x01"));
+    assert!(rt; stand_at(bytes.as_slice(), 184, b"\0\0\0\x68tkhd\x01"));
+    assert!(rt; stand_at(bytes.as_slice(), 296, b"\0\0\0\x20mdhd\0"));
     Ok(())
 }

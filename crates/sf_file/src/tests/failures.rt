@@ -1,7 +1,6 @@
 //! Writes that fail.
 
 use super::*;
-use sf_list::same;
 
 // The sink is object 1. It gets 40 bytes in front of the samples, then 12 of samples, then 588 of the
 // movie box, and last the size of the media data box, which is 16 until then.
@@ -21,16 +20,14 @@ fn each_write_of_a_file_fails(rt: HostRuntime) -> Result<(), Fail> {
     for (call, ended, size, from_39) in rows {
         let mut shelf = MemShelf::new(alloc, Vec::new(alloc));
         shelf.fail_on(1, call)?;
-        same(
-            (call, write(alloc, &mut shelf, &setups, &[(0, &THREE)])),
-            (call, ended),
-        )?;
+        assert_eq!(rt;
+            write(alloc, &mut shelf, &setups, &[(0, &THREE)]),
+            ended,
+            "call {call}"
+        );
         let kept = shelf.file(0).unwrap_or(&[]);
-        same((call, kept.len()), (call, size))?;
-        same(
-            (call, size == 0 || stand_at(kept, 39, from_39)),
-            (call, true),
-        )?;
+        assert_eq!(rt; kept.len(), size, "call {call}");
+        assert!(rt; size == 0 || stand_at(kept, 39, from_39), "call {call}");
     }
     Ok(())
 }
@@ -45,10 +42,10 @@ fn a_failed_chunk_leaves_what_the_file_holds(rt: HostRuntime) -> Result<(), Fail
     append(&mut file, &chunk(alloc, 0, &THREE)?)?;
     let fault = Err(Stop::Fault(FileFault::WriteFault));
     let later = chunk(alloc, 0, &[(64_000, 3072)])?;
-    same(append(&mut file, &later), fault)?;
-    same(
+    assert_eq!(rt; append(&mut file, &later), fault);
+    assert_eq!(rt;
         (file.size(), file.is_empty(), file.start_us()),
-        (640, false, 0),
-    )?;
+        (640, false, 0)
+    );
     Ok(())
 }

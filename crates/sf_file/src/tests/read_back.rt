@@ -1,7 +1,6 @@
 //! Closed files are read by the plain program for movies.
 
 use super::*;
-use sf_list::{holds, same};
 use sf_meaning::{PlainSample, TrackKind, plain_file};
 
 /// A sample that is written: when it is decoded, in microseconds and in ticks, when it is shown, in ticks,
@@ -84,20 +83,20 @@ fn the_samples_of_a_closed_file_are_read_back(rt: HostRuntime) -> Result<(), Fai
     let movie = match plain_file(rt.alloc(), file.as_slice()) {
         Ok(movie) => movie,
         Err(fault) => {
-            same((fault, false), (fault, true))?;
+            assert!(rt; false, "{fault:?}");
             return Ok(());
         }
     };
-    same((movie.scale, movie.start_us), (1_000_000, 1_000_000))?;
+    assert_eq!(rt; (movie.scale, movie.start_us), (1_000_000, 1_000_000));
     let [track] = movie.tracks.as_slice() else {
-        holds(false)?;
+        assert!(rt; false, "one track");
         return Ok(());
     };
-    same(
+    assert_eq!(rt;
         (track.kind, track.scale, track.lead, track.media_time),
-        (TrackKind::Aac, 48_000, 0, 0),
-    )?;
-    same(track.samples.as_slice(), wanted.as_slice())?;
-    holds(stand_at(file.as_slice(), 40, b"IIIIIppbJJJJqqq\xFFlast!!"))?;
+        (TrackKind::Aac, 48_000, 0, 0)
+    );
+    assert_eq!(rt; track.samples.as_slice(), wanted.as_slice());
+    assert!(rt; stand_at(file.as_slice(), 40, b"IIIIIppbJJJJqqq\xFFlast!!"));
     Ok(())
 }

@@ -1,7 +1,6 @@
 //! Files of several tracks.
 
 use super::*;
-use sf_list::{holds, same};
 use sf_meaning::{PlainMovie, TrackKind, plain_file};
 
 /// What a track of a movie is: its kind, its lead in microseconds, and the places of its samples.
@@ -48,13 +47,13 @@ fn a_file_starts_with_the_track_that_begins_first(rt: HostRuntime) -> Result<(),
         (TrackKind::Aac, 1_000_000, &[40]),
         (TrackKind::Aac, 0, &[44]),
     ];
-    holds(reads_as(alloc, &setups, &[(0, &late), (1, &early)], 0, &tracks)?)?;
+    assert!(rt; reads_as(alloc, &setups, &[(0, &late), (1, &early)], 0, &tracks)?);
     let mut shelf = MemShelf::new(alloc, Vec::new(alloc));
     let mut file = begun(alloc, &mut shelf, &setups)?;
     append(&mut file, &chunk(alloc, 0, &late)?)?;
-    same(file.start_us(), 1_000_000)?;
+    assert_eq!(rt; file.start_us(), 1_000_000);
     append(&mut file, &chunk(alloc, 1, &early)?)?;
-    same(file.start_us(), 0)?;
+    assert_eq!(rt; file.start_us(), 0);
     Ok(())
 }
 
@@ -65,9 +64,9 @@ fn a_track_without_samples_has_its_boxes(rt: HostRuntime) -> Result<(), Fail> {
     let alloc = rt.alloc();
     let setups = [sound(alloc, 48_000)?, sound(alloc, 48_000)?];
     let tracks: [Shown<'_>; 2] = [(TrackKind::Aac, 0, &[]), (TrackKind::Aac, 0, &[40, 44, 48])];
-    holds(reads_as(alloc, &setups, &[(1, &THREE)], 0, &tracks)?)?;
+    assert!(rt; reads_as(alloc, &setups, &[(1, &THREE)], 0, &tracks)?);
     let file = written(alloc, &setups, &[(1, &THREE)])?;
-    same(file.len(), 40 + 12 + 140 + 424 + 448)?;
+    assert_eq!(rt; file.len(), 40 + 12 + 140 + 424 + 448);
     Ok(())
 }
 
@@ -93,18 +92,18 @@ fn long_tracks_are_as_long_as_was_told(rt: HostRuntime) -> Result<(), Fail> {
         movie_box: 152 + 508 + 480 + 480,
         samples: 3,
     };
-    same(told, wanted)?;
-    same(file.size(), 1696)?;
+    assert_eq!(rt; told, wanted);
+    assert_eq!(rt; file.size(), 1696);
     let chunks: [Written<'_>; 3] = [(0, &long), (1, &long), (2, &long)];
     let bytes = written(alloc, &setups, &chunks)?;
-    same(bytes.len(), 1696)?;
-    holds(stand_at(bytes.as_slice(), 84, b"\0\0\0\x78mvhd\x01"))?;
+    assert_eq!(rt; bytes.len(), 1696);
+    assert!(rt; stand_at(bytes.as_slice(), 84, b"\0\0\0\x78mvhd\x01"));
     let tracks: [Shown<'_>; 3] = [
         (TrackKind::Avc, 0, &[40, 44, 48]),
         (TrackKind::Aac, 0, &[52, 56, 60]),
         (TrackKind::Aac, 0, &[64, 68, 72]),
     ];
-    holds(reads_as(alloc, &setups, &chunks, 0, &tracks)?)?;
+    assert!(rt; reads_as(alloc, &setups, &chunks, 0, &tracks)?);
     Ok(())
 }
 
@@ -123,14 +122,14 @@ fn chunks_of_tracks_stand_in_turn(rt: HostRuntime) -> Result<(), Fail> {
         (0, &later[..], 4),
     ] {
         let told = append(&mut file, &chunk(alloc, track, times)?)?;
-        same(told.samples, samples)?;
-        same(told.bytes, file.size())?;
+        assert_eq!(rt; told.samples, samples);
+        assert_eq!(rt; told.bytes, file.size());
     }
     let tracks: [Shown<'_>; 2] = [
         (TrackKind::Aac, 0, &[40, 44, 48, 60]),
         (TrackKind::Avc, 0, &[52, 56]),
     ];
     let chunks: [Written<'_>; 3] = [(0, &THREE), (1, &pictures), (0, &later)];
-    holds(reads_as(alloc, &setups, &chunks, 0, &tracks)?)?;
+    assert!(rt; reads_as(alloc, &setups, &chunks, 0, &tracks)?);
     Ok(())
 }

@@ -6,7 +6,7 @@ ghost use Rattle.sf_series.specs.Series.{AreLimits};
 
 use crate::{SerialOutcome, record_serial};
 use sf_gather::Options;
-use sf_list::{Text, holds, same};
+use sf_list::Text;
 use sf_series::{LimitShown, Limits};
 use sf_world::{Failed, Fits, Measure, Source, SureShelf};
 use std::alloc::{AllocError, Global};
@@ -119,12 +119,12 @@ fn a_file_takes_no_chunk_with_which_it_has_too_many_samples(rt: HostRuntime) -> 
         would_be: 16_781_787,
         max: 16_777_216,
     };
-    same(end.outcome, SerialOutcome::Limit(limit))?;
+    assert_eq!(rt; end.outcome, SerialOutcome::Limit(limit));
     // A file without samples has 604 bytes. There is one run of deltas (8) and one of chunks (12), and 536
     // places of chunks (4 each).
-    holds(end.report.files.as_slice() == [16_753_304].as_slice())?;
-    holds(end.report.tracks.as_slice() == [16_750_536].as_slice())?;
-    same(shelf.file(0).map(|file| file.len()), Some(16_753_304))?;
-    holds(shelf.file(1).is_none())?;
+    assert!(rt; end.report.files.as_slice() == [16_753_304].as_slice());
+    assert!(rt; end.report.tracks.as_slice() == [16_750_536].as_slice());
+    assert_eq!(rt; shelf.file(0).map(|file| file.len()), Some(16_753_304));
+    assert!(rt; shelf.file(1).is_none());
     Ok(())
 }

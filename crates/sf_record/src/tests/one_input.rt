@@ -6,10 +6,8 @@ use sf_avc::{ConfigFault, NalFault};
 use sf_coded::CodedFault;
 use sf_entry::{AscFault, SetupFault};
 use sf_gather::SampleFault;
-use sf_list::{holds, same};
 use sf_world::MemShelf;
 use std::alloc::Global;
-use std::test::Fail;
 
 /// No samples, of sound of 48000 Hz.
 const EMPTY: [u8; 25] = *b"SFCS\0\x01\0\x02\0\0\0\0\0\0\0\0\0\x02\0\0\0\x02\x11\x90\0";
@@ -53,7 +51,7 @@ fn recorded(alloc: Global, rows: &[Row<'_>]) -> usize {
 }
 
 #[test]
-fn an_input_is_recorded_up_to_its_end_or_its_fault(rt: HostRuntime) -> Result<(), Fail> {
+fn an_input_is_recorded_up_to_its_end_or_its_fault(rt: HostRuntime) {
     let falls = refused(
         InputFault::Sample(SampleFault::Falls { last_us: 21_333 }),
         76,
@@ -66,13 +64,12 @@ fn an_input_is_recorded_up_to_its_end_or_its_fault(rt: HostRuntime) -> Result<()
         // 640 bytes, a composition offset box of two runs (16 + 16), and a sync sample box of two (16 + 8).
         (&SHOWN_LATER, SerialOutcome::Done, 696, 3),
     ];
-    same(recorded(rt.alloc(), &rows), 4)?;
-    Ok(())
+    assert_eq!(rt; recorded(rt.alloc(), &rows), 4);
 }
 
 // Each header has one byte that differs.
 #[test]
-fn a_header_that_is_refused_gives_no_file(rt: HostRuntime) -> Result<(), Fail> {
+fn a_header_that_is_refused_gives_no_file(rt: HostRuntime) {
     let magic = refused(InputFault::Coded(CodedFault::Magic), 0);
     let start = refused(
         InputFault::Setup(SetupFault::Avc(ConfigFault::Nal(NalFault::NoStart))),
@@ -110,13 +107,12 @@ fn a_header_that_is_refused_gives_no_file(rt: HostRuntime) -> Result<(), Fail> {
             0,
         ),
     ];
-    same(recorded(rt.alloc(), &rows), 4)?;
-    Ok(())
+    assert_eq!(rt; recorded(rt.alloc(), &rows), 4);
 }
 
 // The first read is that of the header and of the first sample, and the second one that of the other sample.
 #[test]
-fn a_failed_read_ends_the_file_before_it(rt: HostRuntime) -> Result<(), Fail> {
+fn a_failed_read_ends_the_file_before_it(rt: HostRuntime) {
     let alloc = rt.alloc();
     let wanted = Ended {
         outcome: SerialOutcome::ReadFault { input: 0 },
@@ -131,9 +127,8 @@ fn a_failed_read_ends_the_file_before_it(rt: HostRuntime) -> Result<(), Fail> {
     };
     if let Some(input) = halves(alloc) {
         let end = record(alloc, &[input.as_slice()], PLAIN, failing);
-        same(end, Some(wanted))?;
+        assert_eq!(rt; end, Some(wanted));
     }
-    Ok(())
 }
 
 /// Whether the one file of an input without samples, of 604 bytes, has these ticks a second. They stand at 284: after the
@@ -152,8 +147,7 @@ fn has_ticks(alloc: Global, input: &[u8], ticks: [u8; 4]) -> bool {
 }
 
 #[test]
-fn an_input_may_name_its_ticks(rt: HostRuntime) -> Result<(), Fail> {
-    holds(has_ticks(rt.alloc(), &EMPTY, [0, 0, 0xBB, 0x80]))?;
-    holds(has_ticks(rt.alloc(), &TICKS, [0, 0x0F, 0x42, 0x40]))?;
-    Ok(())
+fn an_input_may_name_its_ticks(rt: HostRuntime) {
+    assert!(rt; has_ticks(rt.alloc(), &EMPTY, [0, 0, 0xBB, 0x80]));
+    assert!(rt; has_ticks(rt.alloc(), &TICKS, [0, 0x0F, 0x42, 0x40]));
 }

@@ -6,10 +6,8 @@ use super::ended::{
 use crate::{InputFault, SerialOutcome, TrackFault};
 use sf_coded::CodedFault;
 use sf_gather::SampleFault;
-use sf_list::same;
 use sf_series::LimitShown;
 use std::alloc::Global;
-use std::test::Fail;
 
 /// Sound of 48000 Hz with one sample, at 1500000 microseconds.
 const LATE: [u8; 51] = *b"SFCS\0\x01\0\x02\0\0\0\0\0\0\0\0\0\x02\0\0\0\x02\x11\x90\
@@ -29,18 +27,17 @@ const FALLING: [u8; 77] = *b"SFCS\0\x01\0\x02\0\0\0\0\0\0\0\0\0\x02\0\0\0\x02\x1
     \0";
 
 #[test]
-fn a_file_of_just_the_most_bytes_is_taken(rt: HostRuntime) -> Result<(), Fail> {
+fn a_file_of_just_the_most_bytes_is_taken(rt: HostRuntime) {
     let wanted = one(SerialOutcome::Done, [648, NONE, NONE], 3);
-    same(
+    assert_eq!(rt;
         record(rt.alloc(), &[&THREE], bounded(648, 0), NOTHING),
-        wanted,
-    )?;
-    Ok(())
+        wanted
+    );
 }
 
 // The third chunk doesn't go in.
 #[test]
-fn a_chunk_that_passes_the_most_bytes_is_told(rt: HostRuntime) -> Result<(), Fail> {
+fn a_chunk_that_passes_the_most_bytes_is_told(rt: HostRuntime) {
     let limit = LimitShown::Size {
         track: 0,
         sample: 2,
@@ -48,21 +45,19 @@ fn a_chunk_that_passes_the_most_bytes_is_told(rt: HostRuntime) -> Result<(), Fai
         max: 647,
     };
     let wanted = one(SerialOutcome::Limit(limit), [640, NONE, NONE], 2);
-    same(
+    assert_eq!(rt;
         record(rt.alloc(), &[&THREE], bounded(647, 0), NOTHING),
-        wanted,
-    )?;
-    Ok(())
+        wanted
+    );
 }
 
 #[test]
-fn a_chunk_that_passes_the_most_bytes_begins_the_next_file(rt: HostRuntime) -> Result<(), Fail> {
+fn a_chunk_that_passes_the_most_bytes_begins_the_next_file(rt: HostRuntime) {
     let wanted = one(SerialOutcome::Done, [632, 640, NONE], 3);
-    same(
+    assert_eq!(rt;
         record(rt.alloc(), &[&THREE], bounded(647, 1), NOTHING),
-        wanted,
-    )?;
-    Ok(())
+        wanted
+    );
 }
 
 /// One chunk of three samples in a file of at most so many bytes.
@@ -72,7 +67,7 @@ fn whole(alloc: Global, max_bytes: u32) -> Option<Ended> {
 }
 
 #[test]
-fn a_first_chunk_may_meet_a_limit(rt: HostRuntime) -> Result<(), Fail> {
+fn a_first_chunk_may_meet_a_limit(rt: HostRuntime) {
     let limit = LimitShown::Size {
         track: 0,
         sample: 0,
@@ -80,19 +75,17 @@ fn a_first_chunk_may_meet_a_limit(rt: HostRuntime) -> Result<(), Fail> {
         max: 639,
     };
     let wanted = one(SerialOutcome::Limit(limit), [604, NONE, NONE], 0);
-    same(whole(rt.alloc(), 639), wanted)?;
-    Ok(())
+    assert_eq!(rt; whole(rt.alloc(), 639), wanted);
 }
 
 #[test]
-fn an_empty_file_may_meet_a_limit(rt: HostRuntime) -> Result<(), Fail> {
+fn an_empty_file_may_meet_a_limit(rt: HostRuntime) {
     let limit = LimitShown::Nothing {
         would_be: 604,
         max: 603,
     };
     let wanted = one(SerialOutcome::Limit(limit), [NONE; 3], 0);
-    same(whole(rt.alloc(), 603), wanted)?;
-    Ok(())
+    assert_eq!(rt; whole(rt.alloc(), 603), wanted);
 }
 
 /// The answer, the samples of the first tracks, whether there is a first file and a second one, and the failed reads.
@@ -105,7 +98,7 @@ fn told(end: Option<Ended>) -> Option<Told> {
 }
 
 #[test]
-fn two_inputs_are_tracks_of_one_file(rt: HostRuntime) -> Result<(), Fail> {
+fn two_inputs_are_tracks_of_one_file(rt: HostRuntime) {
     let end = told(record(rt.alloc(), &[&THREE, &LATE], PLAIN, NOTHING));
     let wanted = (
         SerialOutcome::Done,
@@ -113,13 +106,12 @@ fn two_inputs_are_tracks_of_one_file(rt: HostRuntime) -> Result<(), Fail> {
         [true, false],
         [0, 0, NONE],
     );
-    same(end, Some(wanted))?;
-    Ok(())
+    assert_eq!(rt; end, Some(wanted));
 }
 
 // The second file begins with the second chunk of the first track, a second after the start of the first file.
 #[test]
-fn a_file_ends_with_its_duration(rt: HostRuntime) -> Result<(), Fail> {
+fn a_file_ends_with_its_duration(rt: HostRuntime) {
     let plan = Plan {
         interleave_us: 500_000,
         max_bytes: 0,
@@ -133,8 +125,7 @@ fn a_file_ends_with_its_duration(rt: HostRuntime) -> Result<(), Fail> {
         [true, true],
         [0, 0, NONE],
     );
-    same(end, Some(wanted))?;
-    Ok(())
+    assert_eq!(rt; end, Some(wanted));
 }
 
 /// The answer for a track with a sample that falls.
@@ -146,25 +137,23 @@ fn falls(track: u32) -> SerialOutcome {
 
 // The other tracks are recorded whole, and of this one the sample before.
 #[test]
-fn the_lowest_fault_is_told(rt: HostRuntime) -> Result<(), Fail> {
+fn the_lowest_fault_is_told(rt: HostRuntime) {
     let inputs: [&[u8]; 3] = [&THREE, &FALLING, &FALLING];
     let end = told(record(rt.alloc(), &inputs, PLAIN, NOTHING));
     let wanted = (falls(1), [3, 1, 1], [true, false], [0, 0, 0]);
-    same(end, Some(wanted))?;
-    Ok(())
+    assert_eq!(rt; end, Some(wanted));
 }
 
 // The second and the third input are cut within their headers.
 #[test]
-fn headers_are_read_before_a_file_is_made(rt: HostRuntime) -> Result<(), Fail> {
+fn headers_are_read_before_a_file_is_made(rt: HostRuntime) {
     let inputs: [&[u8]; 3] = [&THREE, &THREE[..7], &THREE[..6]];
     let end = told(record(rt.alloc(), &inputs, PLAIN, NOTHING));
     let why = InputFault::Coded(CodedFault::Truncated { at: 7 });
     let fault = TrackFault { why, place: 7 };
     let outcome = SerialOutcome::Refused { track: 1, fault };
     let wanted = (outcome, [0; 3], [false; 2], [0; 3]);
-    same(end, Some(wanted))?;
-    Ok(())
+    assert_eq!(rt; end, Some(wanted));
 }
 
 /// Two inputs of a small sample and of one that is read by itself. This read of an input fails.
@@ -180,42 +169,40 @@ fn record_halves(alloc: Global, number: usize, read: u64) -> Option<Told> {
 
 // The first read is that of the header.
 #[test]
-fn a_failed_read_of_a_header_gives_no_file(rt: HostRuntime) -> Result<(), Fail> {
+fn a_failed_read_of_a_header_gives_no_file(rt: HostRuntime) {
     let first = (
         SerialOutcome::ReadFault { input: 0 },
         [0, 0, NONE],
         [false; 2],
         [1, 0, NONE],
     );
-    same(record_halves(rt.alloc(), 0, 0), Some(first))?;
+    assert_eq!(rt; record_halves(rt.alloc(), 0, 0), Some(first));
     let second = (
         SerialOutcome::ReadFault { input: 1 },
         [0, 0, NONE],
         [false; 2],
         [0, 1, NONE],
     );
-    same(record_halves(rt.alloc(), 1, 0), Some(second))?;
-    Ok(())
+    assert_eq!(rt; record_halves(rt.alloc(), 1, 0), Some(second));
 }
 
 // The other input is recorded whole.
 #[test]
-fn a_failed_read_ends_its_track(rt: HostRuntime) -> Result<(), Fail> {
+fn a_failed_read_ends_its_track(rt: HostRuntime) {
     let first = (
         SerialOutcome::ReadFault { input: 0 },
         [1, 2, NONE],
         [true, false],
         [1, 0, NONE],
     );
-    same(record_halves(rt.alloc(), 0, 1), Some(first))?;
+    assert_eq!(rt; record_halves(rt.alloc(), 0, 1), Some(first));
     let second = (
         SerialOutcome::ReadFault { input: 1 },
         [2, 1, NONE],
         [true, false],
         [0, 1, NONE],
     );
-    same(record_halves(rt.alloc(), 1, 1), Some(second))?;
-    Ok(())
+    assert_eq!(rt; record_halves(rt.alloc(), 1, 1), Some(second));
 }
 
 /// Records two files, of one and of two chunks, where a call of an object fails. How many files are kept then, where a
@@ -235,30 +222,28 @@ fn kept_after(alloc: Global, object: u32, call: u64) -> Option<usize> {
 
 // The shelf's two creates; then of each file the head, its chunks, the movie box, and the size of the media data box.
 #[test]
-fn each_failing_call_of_a_shelf_ends_the_files(rt: HostRuntime) -> Result<(), Fail> {
+fn each_failing_call_of_a_shelf_ends_the_files(rt: HostRuntime) {
     let alloc = rt.alloc();
     let creates = [kept_after(alloc, 0, 0), kept_after(alloc, 0, 1)];
-    same(creates, [Some(0), Some(1)])?;
+    assert_eq!(rt; creates, [Some(0), Some(1)]);
     let first = [kept_after(alloc, 1, 0), kept_after(alloc, 1, 1)];
-    same(first, [Some(1); 2])?;
+    assert_eq!(rt; first, [Some(1); 2]);
     let closing = [kept_after(alloc, 1, 2), kept_after(alloc, 1, 3)];
-    same(closing, [Some(1); 2])?;
+    assert_eq!(rt; closing, [Some(1); 2]);
     let second = [
         kept_after(alloc, 2, 0),
         kept_after(alloc, 2, 1),
         kept_after(alloc, 2, 2),
     ];
-    same(second, [Some(2); 3])?;
+    assert_eq!(rt; second, [Some(2); 3]);
     let closing = [kept_after(alloc, 2, 3), kept_after(alloc, 2, 4)];
-    same(closing, [Some(2); 2])?;
-    Ok(())
+    assert_eq!(rt; closing, [Some(2); 2]);
 }
 
 #[test]
-fn sixteen_inputs_are_recorded_at_once(rt: HostRuntime) -> Result<(), Fail> {
+fn sixteen_inputs_are_recorded_at_once(rt: HostRuntime) {
     let inputs: [&[u8]; 16] = [&APART; 16];
     let end = told(record(rt.alloc(), &inputs, PLAIN, NOTHING));
     let wanted = (SerialOutcome::Done, [2; 3], [true, false], [0; 3]);
-    same(end, Some(wanted))?;
-    Ok(())
+    assert_eq!(rt; end, Some(wanted));
 }

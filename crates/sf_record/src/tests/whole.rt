@@ -8,7 +8,6 @@ ghost use Rattle.sf_record.specs.Pump.{NotEndedEarly, Stands};
 
 use super::{input, options, pump_of};
 use crate::{Pump, Stepped};
-use sf_list::same;
 use sf_tick::Chunk;
 use sf_world::Source;
 use std::alloc::{AllocError, Global};
@@ -42,7 +41,7 @@ fn the_chunks_together_are_those_of_the_input(rt: HostRuntime) -> Result<(), Fai
     let bytes = input(alloc, &[0, 21_333, 42_667])?;
     if let Some(mut pump) = pump_of(alloc, bytes, Vec::new(alloc), options(30_000)) {
         let chunks = all_chunks(alloc, &mut pump)?;
-        same(chunks.len(), 2)?;
+        assert_eq!(rt; chunks.len(), 2);
     }
     Ok(())
 }

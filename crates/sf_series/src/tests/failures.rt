@@ -2,7 +2,6 @@
 //! head of its file, one for each chunk, one for the movie box and one for the size of the media data.
 
 use super::*;
-use sf_list::{holds, same};
 
 /// What is left of a recording of three chunks where a call of an object fails: the object, the number of the call, how
 /// many files are kept, how many of them are closed, and how many chunks stand in files.
@@ -75,16 +74,14 @@ fn first_other(alloc: Global, files: u32, rows: &[Left]) -> Result<Option<Left>,
 }
 
 #[test]
-fn closed_files_stand_where_a_call_fails(rt: HostRuntime) -> Result<(), Fail> {
-    same(first_other(rt.alloc(), 2, &LEFT), Ok(None))?;
-    Ok(())
+fn closed_files_stand_where_a_call_fails(rt: HostRuntime) {
+    assert_eq!(rt; first_other(rt.alloc(), 2, &LEFT), Ok(None));
 }
 
 // The closing after a limit fails.
 #[test]
-fn a_failing_end_is_told_in_place_of_a_limit(rt: HostRuntime) -> Result<(), Fail> {
-    same(first_other(rt.alloc(), 1, &[(1, 3, 1, 0, 2)]), Ok(None))?;
-    Ok(())
+fn a_failing_end_is_told_in_place_of_a_limit(rt: HostRuntime) {
+    assert_eq!(rt; first_other(rt.alloc(), 1, &[(1, 3, 1, 0, 2)]), Ok(None));
 }
 
 /// Why a series isn't started where the first call of an object fails, and how many files are kept.
@@ -95,11 +92,10 @@ fn not_started_at(alloc: Global, object: u32) -> Result<(Option<Stop>, u32), All
 }
 
 #[test]
-fn a_series_is_not_started_where_its_first_file_fails(rt: HostRuntime) -> Result<(), Fail> {
+fn a_series_is_not_started_where_its_first_file_fails(rt: HostRuntime) {
     let stop = Some(Stop::Fault(SeriesFault::WriteFault));
-    same(not_started_at(rt.alloc(), 0), Ok((stop, 0)))?;
-    same(not_started_at(rt.alloc(), 1), Ok((stop, 1)))?;
-    Ok(())
+    assert_eq!(rt; not_started_at(rt.alloc(), 0), Ok((stop, 0)));
+    assert_eq!(rt; not_started_at(rt.alloc(), 1), Ok((stop, 1)));
 }
 
 /// Hands a chunk, writes it, and hands one more before the end: what the write and the end answer.
@@ -126,8 +122,8 @@ fn a_chunk_after_a_fault_is_dropped(rt: HostRuntime) -> Result<(), Fail> {
     });
     let mut shelf = sure_shelf(rt.alloc());
     let answers = go_on_after(rt.alloc(), 639, &mut shelf)?;
-    same(answers, (Err(Stop::Fault(over)), Err(over)))?;
-    holds(keeps(&shelf, &[604]))?;
+    assert_eq!(rt; answers, (Err(Stop::Fault(over)), Err(over)));
+    assert!(rt; keeps(&shelf, &[604]));
     Ok(())
 }
 
@@ -137,7 +133,7 @@ fn a_chunk_after_a_failing_write_is_dropped(rt: HostRuntime) -> Result<(), Fail>
     let fault = SeriesFault::WriteFault;
     let mut shelf = failing(rt.alloc(), 1, 1)?;
     let answers = go_on_after(rt.alloc(), 0, &mut shelf)?;
-    same(answers, (Err(Stop::Fault(fault)), Err(fault)))?;
-    holds(keeps(&shelf, &[40]))?;
+    assert_eq!(rt; answers, (Err(Stop::Fault(fault)), Err(fault)));
+    assert!(rt; keeps(&shelf, &[40]));
     Ok(())
 }

@@ -2,7 +2,6 @@
 
 use super::*;
 use crate::names::file_name;
-use sf_list::holds;
 
 /// Whether the file of a number has this name.
 fn is_named(alloc: Global, stem: &str, number: u64, name: &str) -> bool {
@@ -13,11 +12,10 @@ fn is_named(alloc: Global, stem: &str, number: u64, name: &str) -> bool {
 }
 
 #[test]
-fn files_are_numbered_from_one_on(rt: HostRuntime) -> Result<(), Fail> {
+fn files_are_numbered_from_one_on(rt: HostRuntime) {
     let alloc = rt.alloc();
-    holds(is_named(alloc, "out", 1, "out-1.mp4"))?;
-    holds(is_named(alloc, "out", 10, "out-10.mp4"))?;
-    holds(is_named(alloc, "a b", 99_999, "a b-99999.mp4"))?;
-    holds(is_named(alloc, "", 2, "-2.mp4"))?;
-    Ok(())
+    assert!(rt; is_named(alloc, "out", 1, "out-1.mp4"));
+    assert!(rt; is_named(alloc, "out", 10, "out-10.mp4"));
+    assert!(rt; is_named(alloc, "a b", 99_999, "a b-99999.mp4"));
+    assert!(rt; is_named(alloc, "", 2, "-2.mp4"));
 }

@@ -1,7 +1,6 @@
 //! Series of several tracks.
 
 use super::*;
-use sf_list::{holds, same};
 
 /// A step of a series.
 #[derive(Clone, Copy, Debug)]
@@ -80,7 +79,7 @@ fn steps_leave<O: Shelf>(
 }
 
 #[test]
-fn a_later_chunk_may_stand_first(rt: HostRuntime) -> Result<(), Fail> {
+fn a_later_chunk_may_stand_first(rt: HostRuntime) {
     let alloc = rt.alloc();
     let steps = [
         Step::Write(Wrote::Idle),
@@ -92,13 +91,12 @@ fn a_later_chunk_may_stand_first(rt: HostRuntime) -> Result<(), Fail> {
     ];
     let mut shelf = sure_shelf(alloc);
     let left = steps_leave(alloc, (0, 0, 1), &steps, &mut shelf, [1, 1]);
-    same(left, Ok(true))?;
-    holds(reads_as(alloc, &shelf, 0, 0, &[(1_000_000, &[40]), (0, &[44])]))?;
-    Ok(())
+    assert_eq!(rt; left, Ok(true));
+    assert!(rt; reads_as(alloc, &shelf, 0, 0, &[(1_000_000, &[40]), (0, &[44])]));
 }
 
 #[test]
-fn chunks_that_begin_at_once_are_written_by_their_tracks(rt: HostRuntime) -> Result<(), Fail> {
+fn chunks_that_begin_at_once_are_written_by_their_tracks(rt: HostRuntime) {
     let alloc = rt.alloc();
     let steps = [
         Step::Hand(1, 0, 0),
@@ -109,12 +107,11 @@ fn chunks_that_begin_at_once_are_written_by_their_tracks(rt: HostRuntime) -> Res
     ];
     let mut shelf = sure_shelf(alloc);
     let left = steps_leave(alloc, (0, 0, 1), &steps, &mut shelf, [1, 1]);
-    same(left, Ok(true))?;
-    Ok(())
+    assert_eq!(rt; left, Ok(true));
 }
 
 #[test]
-fn the_next_file_begins_with_the_first_track(rt: HostRuntime) -> Result<(), Fail> {
+fn the_next_file_begins_with_the_first_track(rt: HostRuntime) {
     let alloc = rt.alloc();
     let steps = [
         Step::Hand(0, 0, 0),
@@ -123,14 +120,13 @@ fn the_next_file_begins_with_the_first_track(rt: HostRuntime) -> Result<(), Fail
     ];
     let mut shelf = sure_shelf(alloc);
     let left = steps_leave(alloc, (0, 1_000_000, 2), &steps, &mut shelf, [2, 1]);
-    same(left, Ok(true))?;
-    holds(reads_as(alloc, &shelf, 0, 0, &[(0, &[40]), (0, &[])]))?;
-    holds(reads_as(alloc, &shelf, 1, 1_000_000, &[(0, &[40]), (500_000, &[44])]))?;
-    Ok(())
+    assert_eq!(rt; left, Ok(true));
+    assert!(rt; reads_as(alloc, &shelf, 0, 0, &[(0, &[40]), (0, &[])]));
+    assert!(rt; reads_as(alloc, &shelf, 1, 1_000_000, &[(0, &[40]), (500_000, &[44])]));
 }
 
 #[test]
-fn an_empty_last_chunk_only_ends_its_track(rt: HostRuntime) -> Result<(), Fail> {
+fn an_empty_last_chunk_only_ends_its_track(rt: HostRuntime) {
     let alloc = rt.alloc();
     let steps = [
         Step::Hand(0, 0, 0),
@@ -141,6 +137,5 @@ fn an_empty_last_chunk_only_ends_its_track(rt: HostRuntime) -> Result<(), Fail> 
     ];
     let mut shelf = sure_shelf(alloc);
     let left = steps_leave(alloc, (0, 0, 1), &steps, &mut shelf, [1, 0]);
-    same(left, Ok(true))?;
-    Ok(())
+    assert_eq!(rt; left, Ok(true));
 }

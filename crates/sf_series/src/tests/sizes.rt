@@ -2,7 +2,6 @@
 //! of one chunk with three 640.
 
 use super::*;
-use sf_list::{holds, same};
 
 /// Whether a recording ends so, with this many samples in files of these lengths, which are told too.
 fn leaves(
@@ -34,45 +33,42 @@ fn over(sample: u64, would_be: u64, max: u64) -> Result<(), SeriesFault> {
 }
 
 #[test]
-fn files_are_as_long_as_they_may_be(rt: HostRuntime) -> Result<(), Fail> {
+fn files_are_as_long_as_they_may_be(rt: HostRuntime) {
     let alloc = rt.alloc();
     let together = leaves(alloc, &TOGETHER, (0, 0, 1), Ok(()), 3, &[640]);
     let in_one = leaves(alloc, &SINGLE, (648, 0, 1), Ok(()), 3, &[648]);
     let in_two = leaves(alloc, &SINGLE, (647, 0, 2), Ok(()), 3, &[632, 640]);
     let empty = leaves(alloc, &[], (604, 0, 1), Ok(()), 0, &[604]);
-    same(together, Ok(true))?;
-    same(in_one, Ok(true))?;
-    same(in_two, Ok(true))?;
-    same(empty, Ok(true))?;
-    Ok(())
+    assert_eq!(rt; together, Ok(true));
+    assert_eq!(rt; in_one, Ok(true));
+    assert_eq!(rt; in_two, Ok(true));
+    assert_eq!(rt; empty, Ok(true));
 }
 
 #[test]
-fn a_chunk_that_makes_a_file_too_long_ends_the_series(rt: HostRuntime) -> Result<(), Fail> {
+fn a_chunk_that_makes_a_file_too_long_ends_the_series(rt: HostRuntime) {
     let alloc = rt.alloc();
     let later = leaves(alloc, &SINGLE, (647, 0, 1), over(2, 648, 647), 2, &[640]);
     let at_once = leaves(alloc, &TOGETHER, (639, 0, 1), over(0, 640, 639), 0, &[604]);
-    same(later, Ok(true))?;
-    same(at_once, Ok(true))?;
-    Ok(())
+    assert_eq!(rt; later, Ok(true));
+    assert_eq!(rt; at_once, Ok(true));
 }
 
 #[test]
-fn no_file_is_made_where_an_empty_one_is_too_long(rt: HostRuntime) -> Result<(), Fail> {
+fn no_file_is_made_where_an_empty_one_is_too_long(rt: HostRuntime) {
     let nothing = LimitShown::Nothing {
         would_be: 604,
         max: 603,
     };
     let mut shelf = sure_shelf(rt.alloc());
     let stop = not_started(rt.alloc(), (603, 0, 1), &mut shelf);
-    same(stop, Some(Stop::Fault(SeriesFault::Limit(nothing))))?;
-    same(kept(&shelf), 0)?;
-    Ok(())
+    assert_eq!(rt; stop, Some(Stop::Fault(SeriesFault::Limit(nothing))));
+    assert_eq!(rt; kept(&shelf), 0);
 }
 
 // The second chunk begins a second after the first file's start.
 #[test]
-fn a_file_goes_on_for_so_long(rt: HostRuntime) -> Result<(), Fail> {
+fn a_file_goes_on_for_so_long(rt: HostRuntime) {
     let alloc = rt.alloc();
     let chunks: [&[u64]; 3] = [&[0], &[999_999], &[1_000_000]];
     let long = LimitShown::Duration {
@@ -85,16 +81,15 @@ fn a_file_goes_on_for_so_long(rt: HostRuntime) -> Result<(), Fail> {
     let ended = Err(SeriesFault::Limit(long));
     let two = leaves(alloc, &chunks, (0, 1_000_000, 2), Ok(()), 3, &[640, 632]);
     let one = leaves(alloc, &chunks, (0, 1_000_000, 1), ended, 2, &[640]);
-    same(two, Ok(true))?;
-    same(one, Ok(true))?;
-    Ok(())
+    assert_eq!(rt; two, Ok(true));
+    assert_eq!(rt; one, Ok(true));
 }
 
 // Times in the second file count from its own start, which is told from the start of the series on.
 #[test]
 fn the_next_file_starts_with_its_first_sample(rt: HostRuntime) -> Result<(), Fail> {
     let shelf = recorded(rt.alloc(), &SINGLE, (647, 0, 2))?;
-    holds(reads_as(rt.alloc(), &shelf, 0, 0, &[(0, &[40])]))?;
-    holds(reads_as(rt.alloc(), &shelf, 1, 21_333, &[(0, &[40, 44])]))?;
+    assert!(rt; reads_as(rt.alloc(), &shelf, 0, 0, &[(0, &[40])]));
+    assert!(rt; reads_as(rt.alloc(), &shelf, 1, 21_333, &[(0, &[40, 44])]));
     Ok(())
 }

@@ -1,7 +1,6 @@
 //! Dumps of plans, read out sample by sample.
 
 use super::*;
-use sf_list::{holds, same};
 
 /// What a plan word reads out of a file: the dump, and the sample that was refused, where one was.
 #[derive(Drop)]
@@ -68,7 +67,7 @@ fn samples_are_read_one_by_one(rt: HostRuntime) -> Result<(), Fail> {
         \x01\0\0\0\0\0\0\0\x01\0\0\0\0\0\0\0\0\0\0\0\x04\x21\x10\x04\x60\
         \x02\x01\
         \x01\0\0\0\0\0\0\0\x01\0\0\0\0\0\0\x53\x55\0\0\0\x04\x21\x10\x04\x60";
-    same(dump.as_slice(), wanted.as_slice())?;
+    assert_eq!(rt; dump.as_slice(), wanted.as_slice());
     Ok(())
 }
 
@@ -80,22 +79,25 @@ fn samples_are_read_to_the_end(rt: HostRuntime) -> Result<(), Fail> {
         \x01\0\0\0\0\0\0\0\x01\0\0\0\0\0\0\x53\x55\0\0\0\x04\x21\x10\x04\x60\
         \x01\0\0\0\0\0\0\0\x01\0\0\0\0\0\0\xa6\xaa\0\0\0\x04\x21\x10\x04\x60\
         \0";
-    same(dump.as_slice(), wanted.as_slice())?;
+    assert_eq!(rt; dump.as_slice(), wanted.as_slice());
     Ok(())
 }
 
 #[test]
 fn without_a_sample_little_is_read(rt: HostRuntime) -> Result<(), Fail> {
     let alloc = rt.alloc();
-    same(dump_of(alloc, &FILE, "s0")?.as_slice(), b"".as_slice())?;
-    same(dump_of(alloc, &FILE, "r")?.as_slice(), b"\0".as_slice())?;
-    same(dump_of(alloc, &FILE, "a")?.as_slice(), b"\x02\0".as_slice())?;
-    same(
+    assert_eq!(rt; dump_of(alloc, &FILE, "s0")?.as_slice(), b"".as_slice());
+    assert_eq!(rt; dump_of(alloc, &FILE, "r")?.as_slice(), b"\0".as_slice());
+    assert_eq!(rt;
+        dump_of(alloc, &FILE, "a")?.as_slice(),
+        b"\x02\0".as_slice()
+    );
+    assert_eq!(rt;
         dump_of(alloc, &FILE, "e,s0,u0,r")?.as_slice(),
-        b"\0\0".as_slice(),
-    )?;
+        b"\0\0".as_slice()
+    );
     let past = dump_of(alloc, &FILE, "s0,a,a,a,r")?;
-    same(past.as_slice(), b"\x02\x01\x02\x01\x02\0\0".as_slice())?;
+    assert_eq!(rt; past.as_slice(), b"\x02\x01\x02\x01\x02\0\0".as_slice());
     Ok(())
 }
 
@@ -106,7 +108,7 @@ fn units_of_video_are_read_after_start_codes(rt: HostRuntime) -> Result<(), Fail
         \x02\x01\
         \x01\0\0\0\0\0\0\0\x01\0\0\0\0\0\0\x27\x10\0\0\0\x0c\
         \0\0\0\x01\x65\x88\0\0\0\x01\x41\x9a";
-    same(dump.as_slice(), wanted.as_slice())?;
+    assert_eq!(rt; dump.as_slice(), wanted.as_slice());
     Ok(())
 }
 
@@ -119,7 +121,7 @@ fn a_sample_is_refused(rt: HostRuntime) -> Result<(), Fail> {
         sample: 0,
         at: 0,
     };
-    same(read.refused, Some(bad))?;
-    holds(read.dump.is_empty())?;
+    assert_eq!(rt; read.refused, Some(bad));
+    assert!(rt; read.dump.is_empty());
     Ok(())
 }

@@ -1,7 +1,6 @@
 //! Seeks in movies of four samples.
 
 use super::*;
-use sf_list::same;
 use std::alloc::AllocError;
 
 // When the current sample is shown after a seek in the file of four samples.
@@ -20,13 +19,13 @@ fn shown_after(alloc: Global, mode: Mode, us: i64) -> Result<Option<i64>, Fail> 
 #[test]
 fn seeks_lead_to_sync_samples(rt: HostRuntime) -> Result<(), Fail> {
     let alloc = rt.alloc();
-    same(shown_after(alloc, Mode::Previous, 5000)?, Some(10_000))?;
-    same(shown_after(alloc, Mode::Next, 30_001)?, None)?;
-    same(shown_after(alloc, Mode::Closest, 20_000)?, Some(10_000))?;
-    same(shown_after(alloc, Mode::Previous, 29_999)?, Some(10_000))?;
-    same(shown_after(alloc, Mode::Next, 10_000)?, Some(10_000))?;
-    same(shown_after(alloc, Mode::Closest, 20_001)?, Some(30_000))?;
-    same(shown_after(alloc, Mode::Closest, -1)?, Some(10_000))?;
+    assert_eq!(rt; shown_after(alloc, Mode::Previous, 5000)?, Some(10_000));
+    assert_eq!(rt; shown_after(alloc, Mode::Next, 30_001)?, None);
+    assert_eq!(rt; shown_after(alloc, Mode::Closest, 20_000)?, Some(10_000));
+    assert_eq!(rt; shown_after(alloc, Mode::Previous, 29_999)?, Some(10_000));
+    assert_eq!(rt; shown_after(alloc, Mode::Next, 10_000)?, Some(10_000));
+    assert_eq!(rt; shown_after(alloc, Mode::Closest, 20_001)?, Some(30_000));
+    assert_eq!(rt; shown_after(alloc, Mode::Closest, -1)?, Some(10_000));
     Ok(())
 }
 
@@ -104,7 +103,7 @@ fn seeks_lead_to_samples_that_were_reordered(rt: HostRuntime) -> Result<(), Fail
         (Mode::Closest, 40_001, Some(32)),
         (Mode::Closest, 20_000, Some(33)),
     ];
-    same(first_astray(rt.alloc(), tables, &seeks)?, None)?;
+    assert_eq!(rt; first_astray(rt.alloc(), tables, &seeks)?, None);
     Ok(())
 }
 
@@ -124,7 +123,7 @@ fn a_tie_goes_to_the_lower_number(rt: HostRuntime) -> Result<(), Fail> {
         (Mode::Closest, 40_000, Some(35)),
         (Mode::Closest, 40_001, Some(32)),
     ];
-    same(first_astray(rt.alloc(), tables, &seeks)?, None)?;
+    assert_eq!(rt; first_astray(rt.alloc(), tables, &seeks)?, None);
     Ok(())
 }
 
@@ -139,7 +138,7 @@ fn a_sync_number_past_the_samples_is_passed_over(rt: HostRuntime) -> Result<(), 
         (Mode::Next, 30_001, None),
         (Mode::Closest, 20_001, Some(35)),
     ];
-    same(first_astray(rt.alloc(), tables, &seeks)?, None)?;
+    assert_eq!(rt; first_astray(rt.alloc(), tables, &seeks)?, None);
     Ok(())
 }
 
@@ -151,7 +150,7 @@ fn without_a_sync_sample_each_seek_leads_to_the_end(rt: HostRuntime) -> Result<(
         (Mode::Next, 0, None),
         (Mode::Closest, 20_000, None),
     ];
-    same(first_astray(rt.alloc(), tables, &seeks)?, None)?;
+    assert_eq!(rt; first_astray(rt.alloc(), tables, &seeks)?, None);
     Ok(())
 }
 
@@ -167,7 +166,7 @@ fn without_a_sync_table_seeks_lead_to_any_sample(rt: HostRuntime) -> Result<(), 
         (Mode::Closest, 15_000, Some(33)),
         (Mode::Closest, 15_001, Some(34)),
     ];
-    same(first_astray(rt.alloc(), b"", &seeks)?, None)?;
+    assert_eq!(rt; first_astray(rt.alloc(), b"", &seeks)?, None);
     Ok(())
 }
 
@@ -184,7 +183,7 @@ fn of_samples_that_are_shown_at_once_the_first_is_found(rt: HostRuntime) -> Resu
         (Mode::Closest, 20_000, Some(32)),
         (Mode::Closest, 20_001, Some(34)),
     ];
-    same(first_astray(rt.alloc(), tables, &seeks)?, None)?;
+    assert_eq!(rt; first_astray(rt.alloc(), tables, &seeks)?, None);
     Ok(())
 }
 
@@ -200,6 +199,6 @@ fn seeks_lead_to_any_of_samples_that_were_reordered(rt: HostRuntime) -> Result<(
         (Mode::Closest, 25_000, Some(34)),
         (Mode::Closest, 25_001, Some(32)),
     ];
-    same(first_astray(rt.alloc(), tables, &seeks)?, None)?;
+    assert_eq!(rt; first_astray(rt.alloc(), tables, &seeks)?, None);
     Ok(())
 }

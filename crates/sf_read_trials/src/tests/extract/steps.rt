@@ -1,27 +1,26 @@
 //! The current sample, and what is handed out of it.
 
 use super::*;
-use sf_list::same;
 
 #[test]
 fn samples_come_one_after_the_other(rt: HostRuntime) -> Result<(), Fail> {
     let movie = movie_of(rt.alloc(), &FILE)?;
     let mut extractor = Extractor::new(rt.alloc(), &movie)?;
-    same(extractor.track(), None)?;
-    same(extractor.select(1), Err(NoTrack))?;
-    same(extractor.select(0), Ok(()))?;
-    same(extractor.track(), Some(0))?;
-    same(extractor.time_us(), Some(0))?;
-    same(extractor.flags(), Some(1))?;
-    same(extractor.place(), Some(Place { at: 40, len: 4 }))?;
-    same(extractor.advance(), true)?;
-    same(extractor.time_us(), Some(21_333))?;
-    same(extractor.place(), Some(Place { at: 44, len: 4 }))?;
-    same(extractor.advance(), true)?;
-    same(extractor.time_us(), Some(42_666))?;
-    same(extractor.advance(), false)?;
-    same(extractor.time_us(), None)?;
-    same(extractor.advance(), false)?;
+    assert_eq!(rt; extractor.track(), None);
+    assert_eq!(rt; extractor.select(1), Err(NoTrack));
+    assert_eq!(rt; extractor.select(0), Ok(()));
+    assert_eq!(rt; extractor.track(), Some(0));
+    assert_eq!(rt; extractor.time_us(), Some(0));
+    assert_eq!(rt; extractor.flags(), Some(1));
+    assert_eq!(rt; extractor.place(), Some(Place { at: 40, len: 4 }));
+    assert_eq!(rt; extractor.advance(), true);
+    assert_eq!(rt; extractor.time_us(), Some(21_333));
+    assert_eq!(rt; extractor.place(), Some(Place { at: 44, len: 4 }));
+    assert_eq!(rt; extractor.advance(), true);
+    assert_eq!(rt; extractor.time_us(), Some(42_666));
+    assert_eq!(rt; extractor.advance(), false);
+    assert_eq!(rt; extractor.time_us(), None);
+    assert_eq!(rt; extractor.advance(), false);
     Ok(())
 }
 
@@ -31,14 +30,14 @@ fn samples_come_one_after_the_other(rt: HostRuntime) -> Result<(), Fail> {
 fn selecting_again_changes_nothing(rt: HostRuntime) -> Result<(), Fail> {
     let movie = movie_of(rt.alloc(), &FILE)?;
     let mut extractor = Extractor::new(rt.alloc(), &movie)?;
-    same(extractor.select(0), Ok(()))?;
-    same(extractor.advance(), true)?;
-    same(extractor.select(0), Ok(()))?;
-    same(extractor.time_us(), Some(21_333))?;
-    same(extractor.unselect(0), Ok(()))?;
-    same(extractor.time_us(), None)?;
-    same(extractor.select(0), Ok(()))?;
-    same(extractor.time_us(), Some(0))?;
+    assert_eq!(rt; extractor.select(0), Ok(()));
+    assert_eq!(rt; extractor.advance(), true);
+    assert_eq!(rt; extractor.select(0), Ok(()));
+    assert_eq!(rt; extractor.time_us(), Some(21_333));
+    assert_eq!(rt; extractor.unselect(0), Ok(()));
+    assert_eq!(rt; extractor.time_us(), None);
+    assert_eq!(rt; extractor.select(0), Ok(()));
+    assert_eq!(rt; extractor.time_us(), Some(0));
     Ok(())
 }
 
@@ -59,8 +58,8 @@ fn handed_out<'a>(alloc: Global, extractor: &Extractor<'a>, stored: &[u8]) -> Re
 fn sound_is_handed_out_as_stored(rt: HostRuntime) -> Result<(), Fail> {
     let movie = movie_of(rt.alloc(), &FILE)?;
     let mut extractor = Extractor::new(rt.alloc(), &movie)?;
-    same(extractor.select(0), Ok(()))?;
+    assert_eq!(rt; extractor.select(0), Ok(()));
     let out = handed_out(rt.alloc(), &extractor, b"\x21\x10\x04\x60")?;
-    same(out.as_slice(), b"x\x21\x10\x04\x60".as_slice())?;
+    assert_eq!(rt; out.as_slice(), b"x\x21\x10\x04\x60".as_slice());
     Ok(())
 }

@@ -1,7 +1,6 @@
 //! Plan words, and their faults at their places.
 
 use super::*;
-use sf_list::same;
 
 /// Where a word can't be a plan, if it isn't one.
 fn fault_at(alloc: Global, word: &str) -> Option<u64> {
@@ -26,25 +25,25 @@ fn a_word_is_read_as_its_commands(rt: HostRuntime) -> Result<(), Fail> {
         Command::Advance,
         Command::ToEnd,
     ];
-    same(plan.as_slice(), wanted.as_slice())?;
+    assert_eq!(rt; plan.as_slice(), wanted.as_slice());
     Ok(())
 }
 
 #[test]
 fn a_fault_names_the_first_byte_that_is_wrong(rt: HostRuntime) -> Result<(), Fail> {
     let alloc = rt.alloc();
-    same(fault_at(alloc, ""), Some(0))?;
-    same(fault_at(alloc, "x"), Some(0))?;
-    same(fault_at(alloc, "s0,x"), Some(3))?;
-    same(fault_at(alloc, "s"), Some(1))?;
-    same(fault_at(alloc, "s,r"), Some(1))?;
-    same(fault_at(alloc, "s0,"), Some(3))?;
-    same(fault_at(alloc, "r5"), Some(1))?;
-    same(fault_at(alloc, "s5x"), Some(2))?;
-    same(fault_at(alloc, "s0 ,r"), Some(2))?;
-    same(fault_at(alloc, "p00000000000000000001"), Some(20))?;
-    same(fault_at(alloc, "p9223372036854775808"), Some(1))?;
-    same(fault_at(alloc, "p9999999999999999999x"), Some(1))?;
+    assert_eq!(rt; fault_at(alloc, ""), Some(0));
+    assert_eq!(rt; fault_at(alloc, "x"), Some(0));
+    assert_eq!(rt; fault_at(alloc, "s0,x"), Some(3));
+    assert_eq!(rt; fault_at(alloc, "s"), Some(1));
+    assert_eq!(rt; fault_at(alloc, "s,r"), Some(1));
+    assert_eq!(rt; fault_at(alloc, "s0,"), Some(3));
+    assert_eq!(rt; fault_at(alloc, "r5"), Some(1));
+    assert_eq!(rt; fault_at(alloc, "s5x"), Some(2));
+    assert_eq!(rt; fault_at(alloc, "s0 ,r"), Some(2));
+    assert_eq!(rt; fault_at(alloc, "p00000000000000000001"), Some(20));
+    assert_eq!(rt; fault_at(alloc, "p9223372036854775808"), Some(1));
+    assert_eq!(rt; fault_at(alloc, "p9999999999999999999x"), Some(1));
     Ok(())
 }
 
@@ -58,8 +57,8 @@ fn missing_of(alloc: Global, word: &str) -> Result<Option<u64>, Fail> {
 #[test]
 fn a_missing_track_is_told_by_its_command(rt: HostRuntime) -> Result<(), Fail> {
     let alloc = rt.alloc();
-    same(missing_of(alloc, "s5")?, Some(0))?;
-    same(missing_of(alloc, "s0,r,u1")?, Some(2))?;
-    same(missing_of(alloc, "s0,u0,e")?, None)?;
+    assert_eq!(rt; missing_of(alloc, "s5")?, Some(0));
+    assert_eq!(rt; missing_of(alloc, "s0,r,u1")?, Some(2));
+    assert_eq!(rt; missing_of(alloc, "s0,u0,e")?, None);
     Ok(())
 }

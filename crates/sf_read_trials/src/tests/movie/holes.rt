@@ -1,7 +1,6 @@
 //! Files that are too long for the memory.
 
 use super::*;
-use sf_list::{holds, same};
 
 // A file of more than 5 GiB, of which the media data's box has 5368709120 bytes and begins at 24. Its one sample
 // stands at 4294967300, which is 1_0000_0004 in hexadecimal, and takes a chunk offset of eight bytes.
@@ -16,8 +15,8 @@ fn a_sample_after_4_gib_is_found(rt: HostRuntime) -> Result<(), Fail> {
     let moov = moov_of(rt.alloc(), tables, 1)?;
     let mut source = hole_source(rt.alloc(), &front, 24 + 5_368_709_120, moov.as_slice())?;
     let movie = loaded(rt.alloc(), &mut source)?;
-    holds(has_tracks(&movie, &[(TrackKind::Aac, 48_000, 1, 0)]))?;
-    holds(has_samples(&movie, &[(0, 0, sync(0, 4_294_967_300, 4), 0)]))?;
+    assert!(rt; has_tracks(&movie, &[(TrackKind::Aac, 48_000, 1, 0)]));
+    assert!(rt; has_samples(&movie, &[(0, 0, sync(0, 4_294_967_300, 4), 0)]));
     Ok(())
 }
 
@@ -28,7 +27,7 @@ fn a_movie_box_that_is_too_large_is_refused(rt: HostRuntime) -> Result<(), Fail>
     let front: [&[u8]; 2] = [&FILE[..52], b"\x10\0\0\x01moov"];
     let mut source = hole_source(rt.alloc(), &front, 52 + size, b"")?;
     let found = Movie::load(rt.alloc(), &mut source).err();
-    same(found, refused(MovieFault::MoovTooLarge { at: 52, size }))?;
+    assert_eq!(rt; found, refused(MovieFault::MoovTooLarge { at: 52, size }));
     Ok(())
 }
 
@@ -46,6 +45,6 @@ fn samples_that_are_too_large_are_refused(rt: HostRuntime) -> Result<(), Fail> {
     let moov = joined(rt.alloc(), &back)?;
     let mut source = hole_source(rt.alloc(), &front, 24 + 201_326_611, moov.as_slice())?;
     let found = Movie::load(rt.alloc(), &mut source).err();
-    same(found, refused(first))?;
+    assert_eq!(rt; found, refused(first));
     Ok(())
 }

@@ -3,7 +3,6 @@
 use super::*;
 use sf_box::{BoxFault, FourCc};
 use sf_entry::EntryFault;
-use sf_list::{holds, same};
 use sf_meaning::{HeadFault, TableFault};
 
 /// The most of four bytes.
@@ -17,25 +16,24 @@ fn short(kind: &[u8; 4], at: u64) -> Option<LoadFault> {
 
 // The boxes and their counts stand at the places that the file's comment tells.
 #[test]
-fn counts_of_the_most_are_refused_at_their_box(rt: HostRuntime) -> Result<(), Fail> {
+fn counts_of_the_most_are_refused_at_their_box(rt: HostRuntime) {
     let alloc = rt.alloc();
     let sizes = TableFault::TooMany {
         at: 548,
         count: 4_294_967_295,
     };
     let entries = EntryFault::Short { at: 429 };
-    same(fault_with(alloc, 536, MOST), short(b"stts", 524))?;
-    same(fault_with(alloc, 580, MOST), short(b"stsc", 568))?;
-    same(fault_with(alloc, 608, MOST), short(b"stco", 596))?;
-    same(
+    assert_eq!(rt; fault_with(alloc, 536, MOST), short(b"stts", 524));
+    assert_eq!(rt; fault_with(alloc, 580, MOST), short(b"stsc", 568));
+    assert_eq!(rt; fault_with(alloc, 608, MOST), short(b"stco", 596));
+    assert_eq!(rt;
         fault_with(alloc, 433, MOST),
-        refused(MovieFault::Entry(entries)),
-    )?;
-    same(
+        refused(MovieFault::Entry(entries))
+    );
+    assert_eq!(rt;
         fault_with(alloc, 564, MOST),
-        refused(MovieFault::Table(sizes)),
-    )?;
-    Ok(())
+        refused(MovieFault::Table(sizes))
+    );
 }
 
 /// What is told of the track of the file of three samples with other bytes at a place.
@@ -47,11 +45,10 @@ fn track_with(alloc: Global, at: usize, bytes: &[u8]) -> Option<TrackTold> {
 
 // What runs and chunks state past the last sample isn't looked at.
 #[test]
-fn runs_of_the_most_samples_are_loaded(rt: HostRuntime) -> Result<(), Fail> {
+fn runs_of_the_most_samples_are_loaded(rt: HostRuntime) {
     let track = Some((TrackKind::Aac, 48_000, 3, 0));
-    same(track_with(rt.alloc(), 540, MOST), track)?;
-    same(track_with(rt.alloc(), 588, MOST), track)?;
-    Ok(())
+    assert_eq!(rt; track_with(rt.alloc(), 540, MOST), track);
+    assert_eq!(rt; track_with(rt.alloc(), 588, MOST), track);
 }
 
 /// That a box has the most bytes.
@@ -61,15 +58,14 @@ fn overrun(at: u64) -> Option<LoadFault> {
 }
 
 #[test]
-fn boxes_of_the_most_bytes_are_refused(rt: HostRuntime) -> Result<(), Fail> {
+fn boxes_of_the_most_bytes_are_refused(rt: HostRuntime) {
     let alloc = rt.alloc();
     let mdat = b"\0\0\0\x01mdat\xff\xff\xff\xff\xff\xff\xff\xff";
     let moov = b"\0\0\0\x01moov\xff\xff\xff\xff\xff\xff\xff\xff";
     let mvhd = b"\0\0\0\x01mvhd\xff\xff\xff\xff\xff\xff\xff\xff";
-    same(fault_with(alloc, 24, mdat), overrun(24))?;
-    same(fault_with(alloc, 52, moov), overrun(52))?;
-    same(fault_with(alloc, 60, mvhd), overrun(60))?;
-    Ok(())
+    assert_eq!(rt; fault_with(alloc, 24, mdat), overrun(24));
+    assert_eq!(rt; fault_with(alloc, 52, moov), overrun(52));
+    assert_eq!(rt; fault_with(alloc, 60, mvhd), overrun(60));
 }
 
 /// Movie boxes in one another, 300 deep.
@@ -92,7 +88,7 @@ fn boxes_in_boxes_are_not_followed(rt: HostRuntime) -> Result<(), Fail> {
     let file = nested(rt.alloc())?;
     let mut source = source_of(rt.alloc(), file.as_slice(), &[])?;
     let found = Movie::load(rt.alloc(), &mut source).err();
-    same(found, refused(MovieFault::Head(missing)))?;
+    assert_eq!(rt; found, refused(MovieFault::Head(missing)));
     Ok(())
 }
 
@@ -110,8 +106,8 @@ fn tracks_that_share_their_bytes_are_loaded(rt: HostRuntime) -> Result<(), Fail>
     let moov = moov_of(rt.alloc(), tables, 64)?;
     let mut source = hole_source(rt.alloc(), &front, 24 + 16_777_232, moov.as_slice())?;
     let movie = loaded(rt.alloc(), &mut source)?;
-    holds(has_tracks(&movie, &[(TrackKind::Aac, 48_000, 16_777_216, 0); 64]))?;
-    holds(has_samples(&movie, &[last]))?;
+    assert!(rt; has_tracks(&movie, &[(TrackKind::Aac, 48_000, 16_777_216, 0); 64]));
+    assert!(rt; has_samples(&movie, &[last]));
     Ok(())
 }
 
@@ -142,6 +138,6 @@ fn runs_of_no_samples_are_passed_over(rt: HostRuntime) -> Result<(), Fail> {
     let moov = moov_of(rt.alloc(), tables.as_slice(), 1)?;
     let mut source = hole_source(rt.alloc(), &[&FILE[..52]], 52, moov.as_slice())?;
     let movie = loaded(rt.alloc(), &mut source)?;
-    holds(has_samples(&movie, &[(0, 2, sync(2048, 48, 4), 42_666)]))?;
+    assert!(rt; has_samples(&movie, &[(0, 2, sync(2048, 48, 4), 42_666)]));
     Ok(())
 }

@@ -1,7 +1,6 @@
 //! A movie as a phone writes it.
 
 use super::*;
-use sf_list::{holds, same};
 
 /// The type, free space for a movie box that was too long for it, and the head of the media data, whose 104070 bytes
 /// begin at 140.
@@ -87,8 +86,8 @@ fn a_movie_of_a_phone_is_loaded(rt: HostRuntime) -> Result<(), Fail> {
     ];
     let mut source = hole_source(rt.alloc(), &[FRONT], 140 + 104_070, MOOV)?;
     let movie = loaded(rt.alloc(), &mut source)?;
-    holds(has_tracks(&movie, &tracks))?;
-    holds(has_samples(&movie, &samples))?;
-    same(widths_at(&movie, 0), Some([None, Some(4), None]))?;
+    assert!(rt; has_tracks(&movie, &tracks));
+    assert!(rt; has_samples(&movie, &samples));
+    assert_eq!(rt; widths_at(&movie, 0), Some([None, Some(4), None]));
     Ok(())
 }

@@ -1,7 +1,6 @@
 //! Loaded movies beside those that the plain program gives, which holds the file and a list of its samples.
 
 use super::*;
-use sf_list::{holds, same};
 use sf_meaning::{PlainMovie, PlainTrack, plain_file};
 
 /// Whether a track of a movie is this one.
@@ -76,7 +75,9 @@ fn first_other(alloc: Global) -> Result<Option<usize>, AllocError> {
 
 #[test]
 fn damaged_movies_are_as_the_plain_program_reads_them(rt: HostRuntime) -> Result<(), Fail> {
-    holds(is_same(rt.alloc(), &FILE)?)?;
-    same(first_other(rt.alloc())?, None)?;
+    let same = is_same(rt.alloc(), &FILE)?;
+    let other = first_other(rt.alloc())?;
+    assert!(rt; same);
+    assert_eq!(rt; other, None);
     Ok(())
 }

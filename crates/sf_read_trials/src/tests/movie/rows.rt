@@ -2,7 +2,6 @@
 
 use super::*;
 use sf_box::FourCc;
-use sf_list::{holds, same};
 use sf_meaning::TableFault;
 
 /// Whether a movie of one track with such tables is loaded, and its samples are these.
@@ -45,7 +44,7 @@ fn samples_stand_one_after_the_other_in_their_chunk(rt: HostRuntime) -> Result<(
         (0, 2, sync(2048, 200, 30), 42_666),
     ];
     let found = lists(rt.alloc(), TWO_CHUNKS, &wanted)?;
-    holds(found)?;
+    assert!(rt; found);
     Ok(())
 }
 
@@ -64,7 +63,7 @@ fn chunks_that_hold_too_few_samples_are_refused(rt: HostRuntime) -> Result<(), F
         kind: FourCc(*b"stsc"),
         at: 343,
     };
-    same(fault, refused(MovieFault::Table(short)))?;
+    assert_eq!(rt; fault, refused(MovieFault::Table(short)));
     Ok(())
 }
 
@@ -83,6 +82,6 @@ fn sizes_of_four_bits_are_read(rt: HostRuntime) -> Result<(), Fail> {
         (0, 1, sync(1024, 103, 10), 21_333),
     ];
     let found = lists(rt.alloc(), COMPACT, &wanted)?;
-    holds(found)?;
+    assert!(rt; found);
     Ok(())
 }

@@ -2,7 +2,6 @@
 
 use super::*;
 use sf_box::BoxFault;
-use sf_list::{holds, same};
 
 // 1024 ticks at 48000 Hz are 21333 microseconds and a third, and 2048 are 42666 and two thirds.
 #[test]
@@ -14,9 +13,9 @@ fn the_movie_of_three_samples_is_loaded(rt: HostRuntime) -> Result<(), Fail> {
     ];
     let mut source = source_of(rt.alloc(), &FILE, &[])?;
     let movie = loaded(rt.alloc(), &mut source)?;
-    holds(has_tracks(&movie, &[(TrackKind::Aac, 48_000, 3, 0)]))?;
-    holds(has_samples(&movie, &samples))?;
-    same(widths_at(&movie, 0), Some([None, None, None]))?;
+    assert!(rt; has_tracks(&movie, &[(TrackKind::Aac, 48_000, 3, 0)]));
+    assert!(rt; has_samples(&movie, &samples));
+    assert_eq!(rt; widths_at(&movie, 0), Some([None, None, None]));
     Ok(())
 }
 
@@ -59,9 +58,8 @@ fn first_other_cut(alloc: Global) -> Option<usize> {
 }
 
 #[test]
-fn a_file_that_is_cut_short_is_refused_at_its_box(rt: HostRuntime) -> Result<(), Fail> {
-    same(first_other_cut(rt.alloc()), None)?;
-    Ok(())
+fn a_file_that_is_cut_short_is_refused_at_its_box(rt: HostRuntime) {
+    assert_eq!(rt; first_other_cut(rt.alloc()), None);
 }
 
 /// How many reads of the file fail, each with its fault told, until none fails.
@@ -78,20 +76,18 @@ fn failing_reads(alloc: Global) -> Option<u64> {
 
 // The heads of the three boxes and the body of the movie box are read, each by one call.
 #[test]
-fn each_read_that_fails_is_told(rt: HostRuntime) -> Result<(), Fail> {
-    same(failing_reads(rt.alloc()), Some(4))?;
-    Ok(())
+fn each_read_that_fails_is_told(rt: HostRuntime) {
+    assert_eq!(rt; failing_reads(rt.alloc()), Some(4));
 }
 
 // A read that fails after the place of a fault isn't made, and one before it stands in its place.
 #[test]
-fn a_fault_comes_before_later_reads(rt: HostRuntime) -> Result<(), Fail> {
+fn a_fault_comes_before_later_reads(rt: HostRuntime) {
     let no_moov = MovieFault::NoMoov { at: 52 };
     let later = fault_where(rt.alloc(), &FILE[..52], 2);
     let earlier = fault_where(rt.alloc(), &FILE[..52], 1);
-    same(later, (refused(no_moov), 0))?;
-    same(earlier, (Some(LoadFault::ReadFault), 1))?;
-    Ok(())
+    assert_eq!(rt; later, (refused(no_moov), 0));
+    assert_eq!(rt; earlier, (Some(LoadFault::ReadFault), 1));
 }
 
 /// That a sample of the first track lies outside of the file.
@@ -102,10 +98,12 @@ fn outside(sample: u64) -> Option<LoadFault> {
 // The samples end at 52. The place of the chunk stands in the last four bytes of `stco`, at 612, and the
 // size of each sample at 560.
 #[test]
-fn samples_outside_of_the_file_are_refused(rt: HostRuntime) -> Result<(), Fail> {
+fn samples_outside_of_the_file_are_refused(rt: HostRuntime) {
     // The last two of three samples end at 641 or later where the chunk begins at 633.
-    same(fault_with(rt.alloc(), 612, b"\0\0\x02\x79"), outside(1))?;
-    same(fault_with(rt.alloc(), 612, b"\xff\xff\xff\xff"), outside(0))?;
-    same(fault_with(rt.alloc(), 560, b"\0\0\x02\x59"), outside(0))?;
-    Ok(())
+    assert_eq!(rt; fault_with(rt.alloc(), 612, b"\0\0\x02\x79"), outside(1));
+    assert_eq!(rt;
+        fault_with(rt.alloc(), 612, b"\xff\xff\xff\xff"),
+        outside(0)
+    );
+    assert_eq!(rt; fault_with(rt.alloc(), 560, b"\0\0\x02\x59"), outside(0));
 }

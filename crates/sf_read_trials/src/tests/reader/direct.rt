@@ -1,7 +1,6 @@
 //! Readers run one after the other.
 
 use super::*;
-use sf_list::{holds, same};
 
 const FIRST: &[u8] = b"\x01\0\0\0\0\0\0\0\x01\0\0\0\0\0\0\0\0\0\0\0\x04\x21\x10\x04\x60";
 
@@ -18,14 +17,14 @@ fn two_readers_make_a_dump_each(rt: HostRuntime) -> Result<(), Fail> {
         Vec::new(alloc),
         &mut shelf,
     )?;
-    same(end.outcome, ExtractOutcome::Done)?;
-    same(end.dumps.as_slice(), [52, 1].as_slice())?;
+    assert_eq!(rt; end.outcome, ExtractOutcome::Done);
+    assert_eq!(rt; end.dumps.as_slice(), [52, 1].as_slice());
     let mut first = Bytes::from_slice(alloc, FIRST)?;
     first.append(b"\x02\x01")?;
     first.append(SECOND)?;
-    holds(is_dump(&shelf, 0, first.as_slice()))?;
-    holds(is_dump(&shelf, 1, b"\0"))?;
-    same(len_of(&shelf, 2), None)?;
+    assert!(rt; is_dump(&shelf, 0, first.as_slice()));
+    assert!(rt; is_dump(&shelf, 1, b"\0"));
+    assert_eq!(rt; len_of(&shelf, 2), None);
     Ok(())
 }
 
@@ -38,9 +37,9 @@ fn a_missing_track_makes_no_dump(rt: HostRuntime) -> Result<(), Fail> {
         reader: 1,
         command: 1,
     };
-    same(end.outcome, missing)?;
-    holds(end.dumps.is_empty())?;
-    same(len_of(&shelf, 0), None)?;
+    assert_eq!(rt; end.outcome, missing);
+    assert!(rt; end.dumps.is_empty());
+    assert_eq!(rt; len_of(&shelf, 0), None);
     Ok(())
 }
 
@@ -58,11 +57,11 @@ fn each_read_fails_in_turn(rt: HostRuntime) -> Result<(), Fail> {
     let alloc = rt.alloc();
     let fault = ExtractOutcome::ReadFault;
     let done = ExtractOutcome::Done;
-    same(with_failing_read(alloc, 0)?, (fault, None))?;
-    same(with_failing_read(alloc, 3)?, (fault, None))?;
-    same(with_failing_read(alloc, 4)?, (fault, Some(0)))?;
-    same(with_failing_read(alloc, 5)?, (fault, Some(27)))?;
-    same(with_failing_read(alloc, 6)?, (done, Some(52)))?;
+    assert_eq!(rt; with_failing_read(alloc, 0)?, (fault, None));
+    assert_eq!(rt; with_failing_read(alloc, 3)?, (fault, None));
+    assert_eq!(rt; with_failing_read(alloc, 4)?, (fault, Some(0)));
+    assert_eq!(rt; with_failing_read(alloc, 5)?, (fault, Some(27)));
+    assert_eq!(rt; with_failing_read(alloc, 6)?, (done, Some(52)));
     Ok(())
 }
 
@@ -90,12 +89,12 @@ fn each_call_of_the_shelf_fails_in_turn(rt: HostRuntime) -> Result<(), Fail> {
     let alloc = rt.alloc();
     let fault = ExtractOutcome::WriteFault;
     let done = ExtractOutcome::Done;
-    same(with_failing_call(alloc, 0, 0)?, (fault, None, None))?;
-    same(with_failing_call(alloc, 0, 1)?, (fault, Some(52), None))?;
-    same(with_failing_call(alloc, 0, 2)?, (done, Some(52), Some(1)))?;
-    same(with_failing_call(alloc, 1, 0)?, (fault, Some(0), Some(1)))?;
-    same(with_failing_call(alloc, 1, 1)?, (done, Some(52), Some(1)))?;
-    same(with_failing_call(alloc, 2, 0)?, (fault, Some(52), Some(0)))?;
+    assert_eq!(rt; with_failing_call(alloc, 0, 0)?, (fault, None, None));
+    assert_eq!(rt; with_failing_call(alloc, 0, 1)?, (fault, Some(52), None));
+    assert_eq!(rt; with_failing_call(alloc, 0, 2)?, (done, Some(52), Some(1)));
+    assert_eq!(rt; with_failing_call(alloc, 1, 0)?, (fault, Some(0), Some(1)));
+    assert_eq!(rt; with_failing_call(alloc, 1, 1)?, (done, Some(52), Some(1)));
+    assert_eq!(rt; with_failing_call(alloc, 2, 0)?, (fault, Some(52), Some(0)));
     Ok(())
 }
 
@@ -112,11 +111,11 @@ fn readers_go_on_after_the_refused_sample_of_another(rt: HostRuntime) -> Result<
         sample: 0,
         at: 0,
     };
-    same(end.outcome, refused)?;
-    holds(end.dumps.is_empty())?;
-    holds(is_dump(&shelf, 0, b"\0"))?;
-    holds(is_dump(&shelf, 1, b"\x02\0"))?;
-    same(len_of(&shelf, 2), Some(35))?;
-    same(len_of(&shelf, 3), Some(0))?;
+    assert_eq!(rt; end.outcome, refused);
+    assert!(rt; end.dumps.is_empty());
+    assert!(rt; is_dump(&shelf, 0, b"\0"));
+    assert!(rt; is_dump(&shelf, 1, b"\x02\0"));
+    assert_eq!(rt; len_of(&shelf, 2), Some(35));
+    assert_eq!(rt; len_of(&shelf, 3), Some(0));
     Ok(())
 }
