@@ -3,18 +3,16 @@ use Rattle.std.proofs.Common.{◌≡◌, ℕ, zero, suc, ◌+◌, ◌≤◌, ◌
 use Rattle.std.specs.Prelude.{slice_get, IfSome, IsErrAnd}
 use Rattle.std.proofs.lemmas.List.{length-map}
 use Rattle.std.proofs.lemmas.List.Sums.{sum_by-cons}
-use Rattle.sf_coded.specs.declared.types.CodedFault.TheVariants.{Magic, Version, KindCode, ConfigTooLong, Truncated, Tag, Empty, TooLong, Trailing, ReadFault as CodedReadFault, NoMemory as CodedNoMemory}
 use Rattle.sf_gather.specs.declared.given.Options.{Options}
 use Rattle.sf_series.specs.declared.limits.Limits.{Limits}
 use Rattle.sf_series.specs.declared.report.Report.{Report}
 use Rattle.sf_world.specs.Counts.{Rose, both}
 use Rattle.sf_world.specs.Views.{InputsView, ShelfView, SourceView}
 use Rattle.sf_record.specs.Called.{NoneRose, NothingFailed, TellBytes, called_for}
+use Rattle.sf_record.proofs.Called.{refused_by}
 use Rattle.sf_record.specs.Input.{IsOfBytes, read_fault}
 use Rattle.sf_record.specs.Said.{Said}
-use Rattle.sf_record.specs.Serial.{AllRead, ComeBack, HasFault, KeepsMade, SerialEnds, WasRead, answer_at, answer_by, asked_for, gave, lowest_fault}
-use Rattle.sf_record.specs.declared.faults.InputFault.{InputFault}
-use Rattle.sf_record.specs.declared.faults.InputFault.TheVariants.{Coded, Setup as SetupRefused, Sample as SampleRefused}
+use Rattle.sf_record.specs.Serial.{AllRead, ComeBack, HasFault, KeepsMade, SerialEnds, WasRead, answer_at, asked_for, gave, lowest_fault}
 use Rattle.sf_record.specs.declared.faults.TrackFault.{TrackFault}
 use Rattle.sf_record.specs.declared.serial_end.SerialOutcome.{SerialOutcome}
 use Rattle.sf_record.specs.declared.serial_end.SerialOutcome.TheVariants as outcomes
@@ -79,22 +77,6 @@ source_at holds (other ∷ names) (s ∷ sources) (suc n) name all at =
     record { source = x.source; there = x.there; content = x.content }
 
 -- ---- which source failed
-
--- a fault of bytes is told as a refusal
-refused_by : (why : InputFault) (number : ℕ) (fault : TrackFault) → IsOfBytes why → answer_by why number fault ≡ outcomes.Refused number fault
-refused_by (Coded Magic) number fault of = refl
-refused_by (Coded (Version v)) number fault of = refl
-refused_by (Coded (KindCode k)) number fault of = refl
-refused_by (Coded (ConfigTooLong len)) number fault of = refl
-refused_by (Coded (Truncated at)) number fault of = refl
-refused_by (Coded (Tag at tag)) number fault of = refl
-refused_by (Coded (Empty at)) number fault of = refl
-refused_by (Coded (TooLong at len)) number fault of = refl
-refused_by (Coded (Trailing at)) number fault of = refl
-refused_by (Coded CodedReadFault) number fault of = absurd of
-refused_by (Coded CodedNoMemory) number fault of = absurd of
-refused_by (SetupRefused other) number fault of = refl
-refused_by (SampleRefused other) number fault of = refl
 
 -- The count of the source of a number, from the first one on, rose.
 pub record RoseAt (first number : ℕ) (before after : List SourceView) : Type 0 where

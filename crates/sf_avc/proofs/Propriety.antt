@@ -190,7 +190,7 @@ start_some (p ∷ []) us e = absurd (cc e)
 start_some (p ∷ q ∷ ps) us e = chosen_some (list_all (λ b. b == 0) p) (length p + 3) (trimmed q) (units_of (length p + 3 + length q + 3) ps) us e
 
 -- a payload has a unit
-nals_some : (payload : List ℕ) (us : List Nal) → nals payload ≡ Ok us → 1 ≤ length us
+pub nals_some : (payload : List ℕ) (us : List Nal) → nals payload ≡ Ok us → 1 ≤ length us
 unfolding nals
 nals_some payload us e = start_some (pieces payload) us e
 

@@ -8,6 +8,7 @@ use Rattle.sf_box.proofs.BoxLaws.{length-be32}
 use Rattle.sf_avc.specs.declared.nal.NalFault.{NalFault}
 use Rattle.sf_avc.specs.declared.nal.NalFault.TheVariants.{NoStart, EmptyUnit, NoMemory}
 use Rattle.sf_avc.specs.Units.{Nal as Unit, is_code, longer, pieces, kept_before, trimmed, unit_before, units_of, after_start, nals, AreUnits}
+use Rattle.sf_avc.proofs.Propriety.{nals_some}
 use Rattle.sf_avc.specs.Stored.{after_length, prefixed, stored_units, stored}
 use Rattle.sf_gather.specs.declared.accepting.SampleFault.TheVariants.{Nal}
 use Rattle.sf_gather.specs.Accepting.{RefusedBy, refused_units}
@@ -19,7 +20,7 @@ span [] = 0
 span (p ∷ ps) = length p + 3 + span ps
 
 -- how many bytes units take, each with a start code of three bytes
-abbrev codes : List Unit → ℕ
+abbrev pub codes : List Unit → ℕ
 codes [] = 0
 codes (u ∷ us) = length u.bytes + 3 + codes us
 
@@ -80,7 +81,7 @@ start_codes (p ∷ q ∷ ps) us e =
     omega (arith, chosen_codes (list_all (λ b. b == 0) p) (span (q ∷ ps)) (units_of (length p + 3) (q ∷ ps)) us (units_codes (length p + 3) (q ∷ ps)) e)
 
 -- the units of a payload are no longer than it, each with a start code of three bytes
-nals_codes : (payload : List ℕ) (us : List Unit) → nals payload ≡ Ok us → codes us ≤ length payload
+pub nals_codes : (payload : List ℕ) (us : List Unit) → nals payload ≡ Ok us → codes us ≤ length payload
 unfolding nals
 nals_codes payload us e = omega (arith, start_codes (pieces payload) us e, pieces_span payload)
 
@@ -100,27 +101,6 @@ unfolding stored
 stored_length payload bytes e =
     let s = stored_is payload bytes (nals payload) e in
     rw s.2 (omega (arith, prefixed_length s.0, nals_codes payload s.0 s.1))
-
-before_some : (at : ℕ) (t : List ℕ) (others : Result (List Unit) NalFault) (us : List Unit) → unit_before at t others ≡ Ok us → 1 ≤ length us
-before_some at [] others us e = absurd (cc e)
-before_some at (a ∷ t) (Err f) us e = absurd (cc e)
-before_some at (a ∷ t) (Ok vs) us e =
-    let is : record { at = at; bytes = a ∷ t } ∷ vs ≡ us = cc e in
-    rw (← is) (omega arith)
-
-chosen_some : (b : Bool) (at : ℕ) (t : List ℕ) (others : Result (List Unit) NalFault) (us : List Unit) → cond b (unit_before at t others) (Err NoStart) ≡ Ok us → 1 ≤ length us
-chosen_some true at t others us e = before_some at t others us e
-chosen_some false at t others us e = absurd (cc e)
-
-start_some : (ps : List (List ℕ)) (us : List Unit) → after_start ps ≡ Ok us → 1 ≤ length us
-unfolding units_of
-start_some [] us e = absurd (cc e)
-start_some (p ∷ []) us e = absurd (cc e)
-start_some (p ∷ q ∷ ps) us e = chosen_some (list_all (λ b. b == 0) p) (length p + 3) (trimmed q) (units_of (length p + 3 + length q + 3) ps) us e
-
-nals_some : (payload : List ℕ) (us : List Unit) → nals payload ≡ Ok us → 1 ≤ length us
-unfolding nals
-nals_some payload us e = start_some (pieces payload) us e
 
 prefixed_some : (us : List Unit) → 1 ≤ length us → 1 ≤ length (prefixed us)
 unfolding after_length

@@ -23,7 +23,7 @@ use Rattle.sf_layout.specs.Layout.{samples_of, stored_bytes, stbl_of, head_of, m
 use Rattle.sf_layout.specs.Written.{start_in as file_start, written_tracks, written_movie}
 use Rattle.sf_layout.specs.Writable.{Writable}
 use Rattle.sf_layout.specs.declared.heads.TrackHead.{TrackHead}
-use Rattle.sf_layout.proofs.Lists.{all-append}
+use Rattle.sf_meaning.proofs.ListLemmas.{all-append}
 use Rattle.sf_layout.proofs.Parts.{tiled_one}
 use Rattle.sf_layout.proofs.HeadsBack.{Kinds}
 use Rattle.sf_layout.proofs.TracksBack.{trak_list, InFile, tracks_read}

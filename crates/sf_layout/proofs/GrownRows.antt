@@ -6,7 +6,7 @@ use Rattle.sf_tick.specs.declared.types.Stored.{Stored}
 use Rattle.sf_tick.specs.declared.types.Chunk.{Chunk}
 use Rattle.sf_meaning.specs.Stbl.{Row}
 use Rattle.sf_layout.specs.Layout.{samples_of, stored_bytes, row_at, track_samples, track_rows}
-use Rattle.sf_layout.proofs.Lists.{bool_tells}
+use Rattle.sf_meaning.proofs.ListLemmas.{bool_tells}
 use Rattle.sf_layout.proofs.TrackRows.{length-stored}
 use Rattle.sf_layout.proofs.Payload.{other_track}
 

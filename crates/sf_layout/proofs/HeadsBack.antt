@@ -15,7 +15,7 @@ use Rattle.sf_meaning.specs.Edits.{shift_of}
 use Rattle.sf_meaning.proofs.MeaningLaws.{kinds_fit, inside_read, scale_read, dinf_read, heads_by}
 use Rattle.sf_layout.specs.Headers.{tkhd_body, in_edts, media_header}
 use Rattle.sf_layout.specs.declared.heads.TrackHead.{TrackHead}
-use Rattle.sf_layout.proofs.Lists.{all-append}
+use Rattle.sf_meaning.proofs.ListLemmas.{all-append}
 use Rattle.sf_layout.proofs.EditsBack.{edts_read}
 use Rattle.sf_layout.proofs.Parts.{minf_parts, mdia_parts, parts_of_trak}
 

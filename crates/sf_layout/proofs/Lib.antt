@@ -1,5 +1,4 @@
 pub mod Examples
-pub mod Lists
 pub mod EditsBack
 pub mod Parts
 pub mod HeadsBack

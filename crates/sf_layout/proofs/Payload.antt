@@ -8,7 +8,7 @@ use Rattle.sf_tick.specs.declared.types.Chunk.{Chunk}
 use Rattle.sf_entry.specs.declared.track_setup.TrackSetup.{TrackSetup}
 use Rattle.sf_layout.specs.Layout.{samples_of, stored_bytes, track_samples}
 use Rattle.sf_layout.specs.Writable.{IsWritable, AllWritable, Writable}
-use Rattle.sf_layout.proofs.Lists.{bool_tells}
+use Rattle.sf_meaning.proofs.ListLemmas.{bool_tells}
 use Rattle.sf_layout.proofs.TrackRows.{length-stored, samples_with, samples_without}
 
 -- how many bytes the samples of a track have

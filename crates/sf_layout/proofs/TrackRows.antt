@@ -18,7 +18,7 @@ use Rattle.sf_meaning.proofs.MeaningLaws.{chunk_held, chunk_shown, length-sample
 use Rattle.sf_layout.specs.Layout.{samples_of, stored_bytes, track_samples, track_rows}
 use Rattle.sf_layout.specs.Written.{first_tick, base_of, track_groups}
 use Rattle.sf_layout.specs.Writable.{IsWritable, WritableTrack}
-use Rattle.sf_layout.proofs.Lists.{bool_tells, all_front, all_behind}
+use Rattle.sf_meaning.proofs.ListLemmas.{bool_tells, all_front, all_behind}
 use Rattle.sf_layout.proofs.Timing.{paced_of, brief}
 
 -- where the chunk after another begins

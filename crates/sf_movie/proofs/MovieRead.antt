@@ -1,5 +1,5 @@
 -- A movie whose tracks are read through cursors is the movie that its movie box says.
-use Rattle.std.proofs.Common.{◌≡◌, ◌⊎◌, ℕ, ◌+◌, ◌^◌, ◌<◌, List, [], ◌∷◌, ◌++◌, length, map, codes, Ok, Err, refl, sym, ap, subst, ◌∙◌, append_assoc, inl, inr, arith}
+use Rattle.std.proofs.Common.{◌≡◌, ◌⊎◌, ℕ, ◌+◌, ◌^◌, ◌<◌, List, [], ◌∷◌, ◌++◌, length, map, codes, Ok, Err, refl, ap, subst, ◌∙◌, inl, inr, arith}
 use Rattle.std.specs.List.{AllByRecursion}
 use Rattle.std.proofs.lemmas.List.{append-nil, length-map}
 use Rattle.sf_box.specs.Boxes.{Piece}
@@ -17,6 +17,7 @@ use Rattle.sf_meaning.specs.declared.faults.MovieFault.TheVariants as movies
 use Rattle.sf_meaning.specs.declared.movie.PlainMovie.{PlainMovie}
 use Rattle.sf_meaning.specs.declared.movie.PlainTrack.{PlainTrack}
 use Rattle.sf_meaning.proofs.MeaningLaws.{movie_accepted, scale_of_movie, tracks_of_movie}
+use Rattle.sf_meaning.proofs.TrackWalk.{first_step, next_step, wrong_step}
 use Rattle.sf_movie.specs.inner.Kept.{Track, MovieParts, IsKept, IsWhole, loaded_of, parts_read, plain_of, track_read, tracks_read}
 use Rattle.sf_movie.proofs.TrackRead.{WidthLaw, bind_ok, entries_kept, track_is, whole_kept, wide_kept}
 use Rattle.sf_meaning.specs.TrackSamples.{Tables, samples_in}
@@ -28,32 +29,24 @@ use Rattle.sf_meaning.specs.declared.movie.PlainSample.{PlainSample}
 abbrev pub tracks_from : ℕ → ℕ → ℕ → List Track → List Piece → Step (List Track)
 tracks_from bytes scale number front traks = tracks_read bytes scale number traks >>= (λ ts. Ok (front ++ ts))
 
-assoc_tracks : (front : List Track) (t : Track) (r : Step (List Track)) → (r >>= (λ ts. Ok ((front ++ t ∷ []) ++ ts))) ≡ ((r >>= (λ ts. Ok (t ∷ ts))) >>= (λ ts. Ok (front ++ ts)))
-assoc_tracks front t (Ok ts) = ap (λ (all : List Track). Ok all) (append_assoc front (t ∷ []) ts)
-assoc_tracks front t (Err e) = refl
-
 -- one more track
 pub tracks_step : (bytes scale number : ℕ) (front : List Track) (trak : Piece) (traks : List Piece) (t : Track) (all : Step (List Track))
     → tracks_from bytes scale number front (trak ∷ traks) ≡ all → track_read bytes scale number trak ≡ Ok t → tracks_from bytes scale (number + 1) (front ++ t ∷ []) traks ≡ all
 unfolding tracks_read
-tracks_step bytes scale number front trak traks t all h e = assoc_tracks front t (tracks_read bytes scale (number + 1) traks) ∙ sym (rw e refl) ∙ h
+tracks_step bytes scale number front trak traks t all h e = next_step front (track_read bytes scale number trak) (tracks_read bytes scale (number + 1) traks) t all h e
 
 -- a track that isn't read
 pub tracks_wrong : (bytes scale number : ℕ) (front : List Track) (trak : Piece) (traks : List Piece) (all : Step (List Track)) (e : MovieFault)
     → tracks_from bytes scale number front (trak ∷ traks) ≡ all → (e ≡ movies.NoMemory) ⊎ (track_read bytes scale number trak ≡ Err e) → (e ≡ movies.NoMemory) ⊎ (all ≡ Err e)
 unfolding tracks_read
-tracks_wrong bytes scale number front trak traks all e h (inl wrong) = inl wrong
-tracks_wrong bytes scale number front trak traks all e h (inr wrong) = inr (sym h ∙ rw wrong refl)
+tracks_wrong bytes scale number front trak traks all e h wrong = wrong_step front (track_read bytes scale number trak) (tracks_read bytes scale (number + 1) traks) all e h wrong
 
 pub tracks_none : (bytes scale number : ℕ) (front : List Track) → tracks_from bytes scale number front [] ≡ Ok front
 unfolding tracks_read
 tracks_none bytes scale number front = ap (λ (ts : List Track). Ok ts) (append-nil front)
 
 pub tracks_begin : (bytes scale number : ℕ) (traks : List Piece) → tracks_from bytes scale number [] traks ≡ tracks_read bytes scale number traks
-tracks_begin bytes scale number traks = same (tracks_read bytes scale number traks) where
-  same : (r : Step (List Track)) → (r >>= (λ ts. Ok ([] ++ ts))) ≡ r
-  same (Ok ts) = refl
-  same (Err e) = refl
+tracks_begin bytes scale number traks = first_step (tracks_read bytes scale number traks)
 
 -- ---- they are the tracks of the movie
 

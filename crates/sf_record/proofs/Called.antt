@@ -147,7 +147,7 @@ nothing_called {asked} {given} shown inputs told f =
     (over_limit asked.limits f.setups f.passed.passed))
 
 -- a fault of bytes is told as a refusal
-refused_by : (why : InputFault) (number : ℕ) (fault : TrackFault) → IsOfBytes why → answer_by why number fault ≡ Refused number fault
+pub refused_by : (why : InputFault) (number : ℕ) (fault : TrackFault) → IsOfBytes why → answer_by why number fault ≡ Refused number fault
 refused_by (Coded Magic) number fault of = refl
 refused_by (Coded (Version v)) number fault of = refl
 refused_by (Coded (KindCode k)) number fault of = refl

@@ -9,7 +9,7 @@ const fn word(kind: &[u8; 4]) -> u32 {
 }
 
 fn changed(alloc: Global, at: usize, word: u32) -> Result<Bytes, AllocError> {
-    let mut file = Bytes::from_slice(alloc, &FILE)?;
+    let mut file = Bytes::from_slice(alloc, &SOUND)?;
     if at < 637 {
         file.patch(at, &word.to_be_bytes());
     }
@@ -288,7 +288,7 @@ fn a_file_that_is_cut_is_told_where_it_ends(rt: HostRuntime) -> Result<(), Fail>
         (640, None),
     ];
     for (len, fault) in cases {
-        let fault_found = plain_file(rt.alloc(), &FILE[..len]).err();
+        let fault_found = plain_file(rt.alloc(), &SOUND[..len]).err();
         same((len, fault_found), (len, fault))?;
     }
     Ok(())

@@ -9,7 +9,7 @@ const TRAK: FourCc = FourCc(*b"trak");
 
 /// The body of a movie box with these boxes after its header; the first of them stands at 168.
 fn moov_with(alloc: Global, all: &[(FourCc, &[u8], &[u8])]) -> Result<Bytes, AllocError> {
-    let mut moov = Bytes::from_slice(alloc, &FILE[60..168])?;
+    let mut moov = Bytes::from_slice(alloc, &SOUND[60..168])?;
     let rest = boxes(alloc, all)?;
     moov.append(rest.as_slice())?;
     Ok(moov)
@@ -20,9 +20,9 @@ fn boxes_stand_in_any_order(rt: HostRuntime) -> Result<(), Fail> {
     let alloc = rt.alloc();
     let all: [(FourCc, &[u8], &[u8]); 4] = [
         (FourCc(*b"udta"), b"\0\0\0\x10sfts\0\0\0\0\0\0\0", b"\x09"),
-        (TRAK, &FILE[268..616], b""),
+        (TRAK, &SOUND[268..616], b""),
         (FourCc(*b"what"), b"ever", b""),
-        (TRAK, &FILE[268..616], &FILE[176..268]),
+        (TRAK, &SOUND[268..616], &SOUND[176..268]),
     ];
     let moov = moov_with(alloc, &all)?;
     let movie = plain_movie(alloc, moov.as_slice(), 60, 640)
@@ -45,7 +45,7 @@ fn a_track_begins_by_its_edit_list(rt: HostRuntime) -> Result<(), Fail> {
         b"\0\0\0\0\0\0\0\x02\0\0\0\xfa\xff\xff\xff\xff\0\0\0\0\0\0\0\x64\0\0\0\x06\0\x01\0\0";
     let elst = boxes(alloc, &[(FourCc(*b"elst"), two, b"")])?;
     let edts = boxes(alloc, &[(FourCc(*b"edts"), elst.as_slice(), b"")])?;
-    let moov = moov_with(alloc, &[(TRAK, edts.as_slice(), &FILE[268..616])])?;
+    let moov = moov_with(alloc, &[(TRAK, edts.as_slice(), &SOUND[268..616])])?;
     let movie = plain_movie(alloc, moov.as_slice(), 60, 640)
         .ok()
         .ok_or("refused")?;
@@ -61,7 +61,7 @@ fn fault_of(
     tracks: u32,
     compressed: bool,
 ) -> Result<Option<MovieFault>, AllocError> {
-    let mut moov = Bytes::from_slice(alloc, &FILE[60..168])?;
+    let mut moov = Bytes::from_slice(alloc, &SOUND[60..168])?;
     for _ in 0..tracks {
         moov.append(b"\0\0\0\x08trak")?;
     }
@@ -114,7 +114,7 @@ fn kind_after(
     at: usize,
     word: &[u8; 4],
 ) -> Result<Result<TrackKind, MovieFault>, AllocError> {
-    let mut file = Bytes::from_slice(alloc, &FILE)?;
+    let mut file = Bytes::from_slice(alloc, &SOUND)?;
     if at < 637 {
         file.patch(at, word);
     }

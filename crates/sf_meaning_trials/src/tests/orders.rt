@@ -87,7 +87,7 @@ fn entries_are_looked_at_before_their_references(rt: HostRuntime) -> Result<(), 
 #[test]
 fn a_track_is_finished_before_the_next(rt: HostRuntime) -> Result<(), Fail> {
     let alloc = rt.alloc();
-    let mut moov = Bytes::from_slice(alloc, &FILE[60..616])?;
+    let mut moov = Bytes::from_slice(alloc, &SOUND[60..616])?;
     moov.append(b"\0\0\0\x08trak")?;
     let outside = MovieFault::SampleOutside {
         track: 0,
@@ -107,8 +107,8 @@ fn a_track_is_finished_before_the_next(rt: HostRuntime) -> Result<(), Fail> {
 fn a_sample_is_named_by_its_track(rt: HostRuntime) -> Result<(), Fail> {
     let alloc = rt.alloc();
     // the same track once more, with its chunk past the end
-    let mut moov = Bytes::from_slice(alloc, &FILE[60..616])?;
-    moov.append(&FILE[168..612])?;
+    let mut moov = Bytes::from_slice(alloc, &SOUND[60..616])?;
+    moov.append(&SOUND[168..612])?;
     moov.append(b"\0\0\x03\xe8")?;
     let outside = MovieFault::SampleOutside {
         track: 1,

@@ -28,9 +28,9 @@ pub(super) fn replaced(
     if from > to || to > 640 || bytes.len() > 1000 {
         return Err(AllocError);
     }
-    let mut file = Bytes::from_slice(alloc, &FILE[..from as usize])?;
+    let mut file = Bytes::from_slice(alloc, &SOUND[..from as usize])?;
     file.append(bytes)?;
-    file.append(&FILE[to as usize..])?;
+    file.append(&SOUND[to as usize..])?;
     let more = bytes.len() as u32;
     for (at, size) in HOLDERS {
         let holds = at < from && to <= at.saturating_add(size);

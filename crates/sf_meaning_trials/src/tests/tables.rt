@@ -20,23 +20,23 @@ pub(super) fn moov_of(
     let tables = boxes(alloc, tables)?;
     let stbl = boxes(
         alloc,
-        &[(FourCc(*b"stbl"), &FILE[421..524], tables.as_slice())],
+        &[(FourCc(*b"stbl"), &SOUND[421..524], tables.as_slice())],
     )?;
     let minf = boxes(
         alloc,
-        &[(FourCc(*b"minf"), &FILE[361..413], stbl.as_slice())],
+        &[(FourCc(*b"minf"), &SOUND[361..413], stbl.as_slice())],
     )?;
     let mdia = boxes(
         alloc,
-        &[(FourCc(*b"mdia"), &FILE[276..353], minf.as_slice())],
+        &[(FourCc(*b"mdia"), &SOUND[276..353], minf.as_slice())],
     )?;
     let trak = boxes(
         alloc,
-        &[(FourCc(*b"trak"), &FILE[176..268], mdia.as_slice())],
+        &[(FourCc(*b"trak"), &SOUND[176..268], mdia.as_slice())],
     )?;
-    let mut moov = Bytes::from_slice(alloc, &FILE[60..168])?;
+    let mut moov = Bytes::from_slice(alloc, &SOUND[60..168])?;
     moov.append(trak.as_slice())?;
-    moov.append(&FILE[616..640])?;
+    moov.append(&SOUND[616..640])?;
     Ok(moov)
 }
 

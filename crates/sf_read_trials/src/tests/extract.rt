@@ -1,10 +1,10 @@
 //! Extractors over small movies, and plan words.
 
-use super::{FILE, VIDEO};
 use sf_extract::{
     BadSample, Command, Extractor, GiveFault, Mode, Movie, NoTrack, Place, Plan, PlanFault,
     PlanRun, Turn, missing_track, read_plan,
 };
+use sf_handmade::{SOUND, VIDEO};
 use sf_list::Bytes;
 use sf_world::MemSource;
 use std::alloc::Global;

@@ -1,6 +1,6 @@
 //! Movies by hand and by other programs, loaded through sources.
 
-use super::FILE;
+use sf_handmade::SOUND;
 use sf_list::Bytes;
 use sf_movie::{LoadFault, Movie, MovieFault, PlainSample, TrackKind};
 use sf_world::{HoleSource, MemSource, Source};
@@ -45,12 +45,12 @@ fn trak_of(alloc: Global, tables: &[u8]) -> Result<Bytes, AllocError> {
             b"trak",
             &(159 + size).to_be_bytes(),
             b"mdia",
-            &FILE[276..308],
+            &SOUND[276..308],
             &(119 + size).to_be_bytes(),
             b"minf",
             &(111 + size).to_be_bytes(),
             b"stbl",
-            &FILE[421..524],
+            &SOUND[421..524],
             tables,
         ],
     )
@@ -69,7 +69,7 @@ fn moov_of(alloc: Global, tables: &[u8], times: u32) -> Result<Bytes, AllocError
         &[
             &size.to_be_bytes(),
             b"moov",
-            &FILE[60..168],
+            &SOUND[60..168],
             tracks.as_slice(),
         ],
     )
@@ -105,7 +105,7 @@ fn loaded<S: Source>(alloc: Global, source: &mut S) -> Result<Movie, Fail> {
 
 /// The file of three samples with other bytes at a place.
 fn patched(alloc: Global, at: usize, bytes: &[u8]) -> Result<MemSource, AllocError> {
-    let mut file = Bytes::from_slice(alloc, &FILE)?;
+    let mut file = Bytes::from_slice(alloc, &SOUND)?;
     if at < file.len() && bytes.len() <= file.len() - at {
         file.patch(at, bytes);
     }

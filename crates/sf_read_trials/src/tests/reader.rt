@@ -1,6 +1,6 @@
 //! Plans are read out of a movie onto a shelf in memory.
 
-use super::{FILE, VIDEO};
+use sf_handmade::{SOUND, VIDEO};
 use sf_list::{Bytes, Items};
 use sf_reader::{ExtractEnd, ExtractOutcome, Plan, extract_direct, read_plan};
 use sf_world::{MemShelf, MemSource};

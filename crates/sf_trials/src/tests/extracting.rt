@@ -1,37 +1,13 @@
 //! Plans that are read out of a movie into dumps.
 
-use super::inputs::FILE;
 use super::*;
 use sf_box::BoxFault;
+use sf_handmade::{SOUND, VIDEO};
 use sf_list::{holds, same};
 use std::test::Fail;
 
 /// The record of the second sample of the file: track 0, sync, its time, and four bytes.
 const SECOND: [u8; 25] = *b"\x01\0\0\0\0\0\0\0\x01\0\0\0\0\0\0\x53\x55\0\0\0\x04!\x10\x04`";
-
-/// A movie of two samples of AVC video at 32 and 37. The lengths of their units have four bytes: the first sample says
-/// nine bytes and has one, the second has two units of two.
-const VIDEO: [u8; 459] = *b"\
-    \0\0\0\x18ftypmp42\0\0\0\0isommp42\
-    \0\0\0\x19mdat\0\0\0\x09e\0\0\0\x02e\x88\0\0\0\x02A\x9a\
-    \0\0\x01\x9amoov\
-    \0\0\0lmvhd\0\0\0\0\0\0\0\0\0\0\0\0\0\0\x03\xe8\0\0\0\0\0\x01\0\0\x01\0\0\0\0\0\0\0\0\0\0\0\
-    \0\x01\0\0\0\0\0\0\0\0\0\0\0\0\0\0\0\x01\0\0\0\0\0\0\0\0\0\0\0\0\0\0@\0\0\0\0\0\0\0\0\0\0\0\
-    \0\0\0\0\0\0\0\0\0\0\0\0\0\0\0\0\0\0\0\x02\
-    \0\0\x01&trak\
-    \0\0\x01\x1emdia\
-    \0\0\0 mdhd\0\0\0\0\0\0\0\0\0\0\0\0\0\0\x03\xe8\0\0\0\0U\xc4\0\0\
-    \0\0\0\xf6minf\
-    \0\0\0\xeestbl\
-    \0\0\0\x82stsd\0\0\0\0\0\0\0\x01\
-    \0\0\0ravc1\0\0\0\0\0\0\0\x01\0\0\0\0\0\0\0\0\0\0\0\0\0\0\0\0\0\x10\0\x10\0H\0\0\0H\0\0\0\0\
-    \0\0\0\x01\0\0\0\0\0\0\0\0\0\0\0\0\0\0\0\0\0\0\0\0\0\0\0\0\0\0\0\0\0\0\0\0\0\x18\xff\xff\
-    \0\0\0\x1cavcC\x01B\0\x1e\xff\xe1\0\x05gB\0\x1e\xf0\x01\0\x04h\xce8\x80\
-    \0\0\0\x18stts\0\0\0\0\0\0\0\x01\0\0\0\x02\0\0\0\x0a\
-    \0\0\0\x1cstsz\0\0\0\0\0\0\0\0\0\0\0\x02\0\0\0\x05\0\0\0\x0c\
-    \0\0\0\x1cstsc\0\0\0\0\0\0\0\x01\0\0\0\x01\0\0\0\x02\0\0\0\x01\
-    \0\0\0\x14stco\0\0\0\0\0\0\0\x01\0\0\0 \
-    ";
 
 /// The length of a file of a shelf.
 fn len_of(shelf: &MemShelf, number: u32) -> Option<usize> {
@@ -70,7 +46,7 @@ fn each_plan_is_read_out_into_a_dump(rt: HostRuntime) -> Result<(), Fail> {
         ),
     ];
     for (words, [first, second], lines) in rows {
-        let ended = run_words(rt.alloc(), words, &FILE)?;
+        let ended = run_words(rt.alloc(), words, &SOUND)?;
         ended.gives(Status::Done, lines)?;
         holds(ended.shelf.file(0) == first)?;
         holds(ended.shelf.file(1) == second)?;
@@ -107,21 +83,21 @@ fn each_refusal_is_told_with_its_place(rt: HostRuntime) -> Result<(), Fail> {
     let rows: [Row; 5] = [
         (
             &["extract", "b", "r"],
-            &FILE,
+            &SOUND,
             Status::OpenFault { input: 0 },
             b"cannot open input 0\n",
             [None, None],
         ),
         (
             &["extract", "a", "s9"],
-            &FILE[..639],
+            &SOUND[..639],
             cut,
             b"movie refused\n",
             [None, None],
         ),
         (
             &["extract", "a", "r", "s0,s1", "u1"],
-            &FILE,
+            &SOUND,
             MISSING,
             b"plan refused: reader 1 command 1\n",
             [None, None],
@@ -163,7 +139,7 @@ fn failing(
     call: u64,
 ) -> Result<(Status, [Option<usize>; 2]), AllocError> {
     let words = words_of(alloc, &["extract", "a", "s0,r,a,r", "r"])?;
-    let mut inputs = inputs_of(alloc, &FILE, vec![in alloc; read]?)?;
+    let mut inputs = inputs_of(alloc, &SOUND, vec![in alloc; read]?)?;
     let mut shelf = MemShelf::new(alloc, Vec::new(alloc));
     shelf.fail_on(object, call)?;
     let mut text = MemText::new(alloc);

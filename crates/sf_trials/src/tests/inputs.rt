@@ -1,38 +1,9 @@
 //! Inputs that are recorded whole, and inputs that end too early.
 
 use super::*;
+use sf_handmade::SOUND;
 use sf_list::{holds, same};
 use std::test::Fail;
-
-/// The file of the whole input, box by box.
-pub(super) const FILE: [u8; 640] = *b"\
-    \0\0\0\x18ftypmp42\0\0\0\0isommp42\
-    \0\0\0\x01mdat\0\0\0\0\0\0\0\x1c!\x10\x04`!\x10\x04`!\x10\x04`\
-    \0\0\x02Lmoov\
-    \0\0\0lmvhd\0\0\0\0\0\0\0\0\0\0\0\0\0\x0fB@\0\0\xfa\0\0\x01\0\0\x01\0\0\0\0\0\0\0\0\0\0\
-    \0\0\x01\0\0\0\0\0\0\0\0\0\0\0\0\0\0\0\x01\0\0\0\0\0\0\0\0\0\0\0\0\0\0@\0\0\0\0\0\0\0\0\
-    \0\0\0\0\0\0\0\0\0\0\0\0\0\0\0\0\0\0\0\0\0\0\x02\
-    \0\0\x01\xc0trak\
-    \0\0\0\x5ctkhd\0\0\0\x07\0\0\0\0\0\0\0\0\0\0\0\x01\0\0\0\0\0\0\xfa\0\0\0\0\0\0\0\0\0\0\0\
-    \0\0\x01\0\0\0\0\x01\0\0\0\0\0\0\0\0\0\0\0\0\0\0\0\x01\0\0\0\0\0\0\0\0\0\0\0\0\0\0@\0\0\
-    \0\0\0\0\0\0\0\0\0\
-    \0\0\x01\x5cmdia\
-    \0\0\0 mdhd\0\0\0\0\0\0\0\0\0\0\0\0\0\0\xbb\x80\0\0\x0c\0U\xc4\0\0\
-    \0\0\0-hdlr\0\0\0\0\0\0\0\0soun\0\0\0\0\0\0\0\0\0\0\0\0SoundSamples\0\
-    \0\0\x01\x07minf\
-    \0\0\0\x10smhd\0\0\0\0\0\0\0\0\
-    \0\0\0$dinf\
-    \0\0\0\x1cdref\0\0\0\0\0\0\0\x01\0\0\0\x0curl \0\0\0\x01\
-    \0\0\0\xcbstbl\
-    \0\0\0gstsd\0\0\0\0\0\0\0\x01\0\0\0Wmp4a\0\0\0\0\0\0\0\x01\0\0\0\0\0\0\0\0\0\x02\0\x10\0\
-    \0\0\0\xbb\x80\0\0\0\0\03esds\0\0\0\0\x03\x80\x80\x80\x22\0\0\0\x04\x80\x80\x80\x14@\x15\
-    \0\0\0\0\0\0\0\0\0\0\0\x05\x80\x80\x80\x02\x11\x90\x06\x80\x80\x80\x01\x02\
-    \0\0\0\x18stts\0\0\0\0\0\0\0\x01\0\0\0\x03\0\0\x04\0\
-    \0\0\0\x14stsz\0\0\0\0\0\0\0\x04\0\0\0\x03\
-    \0\0\0\x1cstsc\0\0\0\0\0\0\0\x01\0\0\0\x01\0\0\0\x03\0\0\0\x01\
-    \0\0\0\x14stco\0\0\0\0\0\0\0\x01\0\0\0(\
-    \0\0\0\x18udta\
-    \0\0\0\x10sfts\0\0\0\0\0\0\0\0";
 
 /// The sizes of files of no sample, and of one, two and three samples of four bytes in one chunk.
 const SIZES: [usize; 4] = [604, 632, 636, 640];
@@ -41,7 +12,7 @@ const SIZES: [usize; 4] = [604, 632, 636, 640];
 fn an_input_is_recorded_into_one_file(rt: HostRuntime) -> Result<(), Fail> {
     let ended = run_words(rt.alloc(), &["record", "a"], &INPUT)?;
     ended.ends(Status::Done)?;
-    holds(ended.shelf.file(0) == Some(FILE.as_slice()))?;
+    holds(ended.shelf.file(0) == Some(SOUND.as_slice()))?;
     holds(ended.shelf.file(1).is_none())?;
     same(
         ended.text.bytes(),

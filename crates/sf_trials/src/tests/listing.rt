@@ -1,8 +1,8 @@
 //! The list of a movie, over sources and texts in memory.
 
-use super::inputs::FILE;
 use super::*;
 use sf_box::{BoxFault, FourCc};
+use sf_handmade::SOUND;
 use sf_list::{holds, same};
 use sf_meaning::{HeadFault, MovieFault, TableFault};
 use sf_world::{HoleSource, MemSource, Shelf};
@@ -23,7 +23,7 @@ fn source_of(alloc: Global, file: &[u8], failing: Vec<u64>) -> Result<MemSource,
 #[test]
 fn each_sample_has_a_line(rt: HostRuntime) -> Result<(), Fail> {
     let alloc = rt.alloc();
-    let mut source = source_of(alloc, &FILE, Vec::new(alloc))?;
+    let mut source = source_of(alloc, &SOUND, Vec::new(alloc))?;
     let mut text = MemText::new(alloc);
     same(list_movie(alloc, &mut source, &mut text), Ok(()))?;
     same(text.bytes(), LINES)?;
@@ -35,7 +35,7 @@ fn each_sample_has_a_line(rt: HostRuntime) -> Result<(), Fail> {
 fn each_read_fails_before_the_first_line(rt: HostRuntime) -> Result<(), Fail> {
     let alloc = rt.alloc();
     for failing in 0..5u64 {
-        let mut source = source_of(alloc, &FILE, vec![in alloc; failing]?)?;
+        let mut source = source_of(alloc, &SOUND, vec![in alloc; failing]?)?;
         let mut text = MemText::new(alloc);
         let answer = list_movie(alloc, &mut source, &mut text);
         let (wanted, lines) = if failing < 4 {
@@ -75,7 +75,7 @@ fn a_text_that_fails_gains_no_more(rt: HostRuntime) -> Result<(), Fail> {
         (2, Ok(()), LINES.len()),
     ];
     for (failing, wanted, size) in rows {
-        let (answer, gained) = listed_by(rt.alloc(), &FILE, failing)?;
+        let (answer, gained) = listed_by(rt.alloc(), &SOUND, failing)?;
         same((failing, answer), (failing, wanted))?;
         same((failing, gained), (failing, Some(size)))?;
     }
@@ -126,7 +126,7 @@ fn fault_at(length: u64) -> MovieFault {
 fn a_file_that_is_cut_short_is_refused_at_its_box(rt: HostRuntime) -> Result<(), Fail> {
     let alloc = rt.alloc();
     for length in 0..640usize {
-        let mut source = source_of(alloc, &FILE[..length], Vec::new(alloc))?;
+        let mut source = source_of(alloc, &SOUND[..length], Vec::new(alloc))?;
         let mut text = MemText::new(alloc);
         let answer = list_movie(alloc, &mut source, &mut text);
         let fault = fault_at(length as u64);
@@ -140,9 +140,9 @@ fn a_file_that_is_cut_short_is_refused_at_its_box(rt: HostRuntime) -> Result<(),
 #[test]
 fn a_media_data_box_of_5_gib_is_passed_over(rt: HostRuntime) -> Result<(), Fail> {
     let alloc = rt.alloc();
-    let mut front = Bytes::from_slice(alloc, &FILE[..24])?;
+    let mut front = Bytes::from_slice(alloc, &SOUND[..24])?;
     front.append(b"\0\0\0\x01mdat\0\0\0\x01\x40\0\0\x10")?;
-    let back = Bytes::from_slice(alloc, &FILE[52..])?;
+    let back = Bytes::from_slice(alloc, &SOUND[52..])?;
     let end = 24 + 5_368_709_136;
     let mut pieces = Vec::new(alloc);
     pieces.push((0, front))?;
@@ -157,16 +157,16 @@ fn a_media_data_box_of_5_gib_is_passed_over(rt: HostRuntime) -> Result<(), Fail>
 #[test]
 fn a_movie_of_a_name_is_listed(rt: HostRuntime) -> Result<(), Fail> {
     let rows: [(&[&str], &[u8], Status, &[u8]); 3] = [
-        (&["list", "a"], &FILE, Status::Done, LINES),
+        (&["list", "a"], &SOUND, Status::Done, LINES),
         (
             &["list", "a"],
-            &FILE[..52],
+            &SOUND[..52],
             Status::MovieRefused(MovieFault::NoMoov { at: 52 }),
             b"movie refused\n",
         ),
         (
             &["list", "b"],
-            &FILE,
+            &SOUND,
             Status::OpenFault { input: 0 },
             b"cannot open input 0\n",
         ),
@@ -184,7 +184,7 @@ fn a_failed_read_ends_the_list(rt: HostRuntime) -> Result<(), Fail> {
     let alloc = rt.alloc();
     let words = words_of(alloc, &["list", "a"])?;
     for failing in 0..4u64 {
-        let mut inputs = inputs_of(alloc, &FILE, vec![in alloc; failing]?)?;
+        let mut inputs = inputs_of(alloc, &SOUND, vec![in alloc; failing]?)?;
         let mut shelf = MemShelf::new(alloc, Vec::new(alloc));
         let mut text = MemText::new(alloc);
         let status = run(alloc, &words, &mut inputs, &mut shelf, &mut text);
@@ -203,7 +203,7 @@ fn a_failed_read_ends_the_list(rt: HostRuntime) -> Result<(), Fail> {
 fn a_failed_text_ends_the_list(rt: HostRuntime) -> Result<(), Fail> {
     let alloc = rt.alloc();
     let words = words_of(alloc, &["list", "a"])?;
-    let mut inputs = inputs_of(alloc, &FILE, Vec::new(alloc))?;
+    let mut inputs = inputs_of(alloc, &SOUND, Vec::new(alloc))?;
     let mut shelf = MemShelf::new(alloc, Vec::new(alloc));
     let mut texts = MemShelf::new(alloc, Vec::new(alloc));
     texts.fail_on(1, 0)?;
@@ -219,7 +219,7 @@ fn a_failed_text_ends_the_list(rt: HostRuntime) -> Result<(), Fail> {
 
 /// The recorded file with other bytes at a place.
 fn changed(alloc: Global, at: usize, bytes: &[u8]) -> Result<Vec<u8>, AllocError> {
-    let mut file = FILE.to_vec(alloc)?;
+    let mut file = SOUND.to_vec(alloc)?;
     for index in 0..bytes.len() {
         let place = at.saturating_add(index);
         if place < file.len() {

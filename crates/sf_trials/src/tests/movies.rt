@@ -1,8 +1,8 @@
 //! Lists of movies that other programs write, built box by box.
 
-use super::inputs::FILE;
 use super::*;
 use sf_extract::read_plan;
+use sf_handmade::SOUND;
 use sf_list::{holds, same};
 use sf_meaning::MovieFault;
 use sf_reader::{ExtractOutcome, extract_direct};
@@ -165,7 +165,7 @@ fn a_movie_of_a_phone_is_listed(rt: HostRuntime) -> Result<(), Fail> {
     }
     let entry = avc1(alloc)?;
     let picture = trak(alloc, video, entry.as_slice(), &syncs)?;
-    let heard = trak(alloc, sound, &FILE[437..524], &[])?;
+    let heard = trak(alloc, sound, &SOUND[437..524], &[])?;
     let mvhd = words(alloc, &[0, 0, 0, 1000, 30_016, 0x1_0000, 0x100_0000, 0, 0])?;
     let mut moov = boxes(
         alloc,
@@ -199,10 +199,10 @@ fn a_movie_of_a_phone_is_listed(rt: HostRuntime) -> Result<(), Fail> {
 // A file of more than 5 GiB, of which the media data's box has 5368709120 bytes and begins at 24. Its one sample
 // stands at 4294967300, which is 1_0000_0004 in hexadecimal, and takes a chunk offset of eight bytes.
 fn after_4_gib(alloc: Global) -> Result<HoleSource, AllocError> {
-    let mut front = Bytes::from_slice(alloc, &FILE[..24])?;
+    let mut front = Bytes::from_slice(alloc, &SOUND[..24])?;
     front.append(b"\0\0\0\x01mdat\0\0\0\x01\x40\0\0\0")?;
     let stts = words(alloc, &[0, 1, 1, 0])?;
-    let stsd = stsd(alloc, &FILE[437..524])?;
+    let stsd = stsd(alloc, &SOUND[437..524])?;
     let stbl = boxes(
         alloc,
         &[
@@ -216,12 +216,12 @@ fn after_4_gib(alloc: Global) -> Result<HoleSource, AllocError> {
     let minf = boxes(alloc, &[(b"stbl", stbl.as_slice())])?;
     let mdia = boxes(
         alloc,
-        &[(b"mdhd", &FILE[284..308]), (b"minf", minf.as_slice())],
+        &[(b"mdhd", &SOUND[284..308]), (b"minf", minf.as_slice())],
     )?;
     let trak = boxes(alloc, &[(b"mdia", mdia.as_slice())])?;
     let body = boxes(
         alloc,
-        &[(b"mvhd", &FILE[68..168]), (b"trak", trak.as_slice())],
+        &[(b"mvhd", &SOUND[68..168]), (b"trak", trak.as_slice())],
     )?;
     let moov = boxes(alloc, &[(b"moov", body.as_slice())])?;
     let end = 24 + 5_368_709_120;
@@ -284,7 +284,7 @@ fn refused(alloc: Global, source: HoleSource) -> Result<Result<(), ListFault>, F
 #[test]
 fn what_is_too_large_is_refused_before_the_first_line(rt: HostRuntime) -> Result<(), Fail> {
     let alloc = rt.alloc();
-    let mut front = Bytes::from_slice(alloc, &FILE[..52])?;
+    let mut front = Bytes::from_slice(alloc, &SOUND[..52])?;
     front.append(b"\x10\0\0\x01moov")?;
     let mut pieces = Vec::new(alloc);
     pieces.push((0, front))?;
@@ -294,9 +294,9 @@ fn what_is_too_large_is_refused_before_the_first_line(rt: HostRuntime) -> Result
         size: 268_435_457,
     };
     same(refused(alloc, long)?, Err(ListFault::Refused(at)))?;
-    let mut front = Bytes::from_slice(alloc, &FILE[..24])?;
+    let mut front = Bytes::from_slice(alloc, &SOUND[..24])?;
     front.append(b"\0\0\0\x01mdat\0\0\0\0\x0c\0\0\x13")?;
-    let mut back = Bytes::from_slice(alloc, &FILE[52..])?;
+    let mut back = Bytes::from_slice(alloc, &SOUND[52..])?;
     back.patch(508, b"\x04\0\0\x01");
     let end = 24 + 201_326_611;
     let mut pieces = Vec::new(alloc);

@@ -1,7 +1,7 @@
 //! Recordings and lists of many samples, chunks and boxes: memory suffices where it is there.
 
-use super::inputs::FILE;
 use super::*;
+use sf_handmade::SOUND;
 use sf_list::same;
 use std::test::Fail;
 
@@ -37,7 +37,7 @@ fn many_samples_and_chunks_are_recorded_and_listed(rt: HostRuntime) -> Result<()
 #[test]
 fn many_boxes_are_passed_over(rt: HostRuntime) -> Result<(), Fail> {
     let alloc = rt.alloc();
-    let mut file = FILE.to_vec(alloc)?;
+    let mut file = SOUND.to_vec(alloc)?;
     for _ in 0..100 {
         file.extend_from_slice(b"\0\0\0\x0cfreefree")?;
     }

@@ -2,8 +2,8 @@
 
 ghost use Rattle.std.specs.Prelude.{◌≡◌, ◌^◌, ◌<◌, length, None};
 
-use super::inputs::FILE;
 use super::*;
+use sf_handmade::SOUND;
 use sf_list::{holds, same};
 use sf_world::{Denied, Failed, Sink};
 use std::test::Fail;
@@ -65,9 +65,9 @@ fn each_answer_is_put_once_and_never_patched(rt: HostRuntime) -> Result<(), Fail
         (&["record", "a"], &INPUT, 1),
         (&["record", "a"], cut.as_slice(), 1),
         (&["record", "b"], &INPUT, 1),
-        (&["list", "a"], &FILE, 2),
+        (&["list", "a"], &SOUND, 2),
         (&["list", "a"], &INPUT, 1),
-        (&["extract", "a", "s0,e", "r"], &FILE, 1),
+        (&["extract", "a", "s0,e", "r"], &SOUND, 1),
         (&["make"], &INPUT, 1),
         (&["make", "1", "1"], &INPUT, 1),
     ];
@@ -92,10 +92,10 @@ fn a_text_without_memory_ends_each_answer(rt: HostRuntime) -> Result<(), Fail> {
     let alloc = rt.alloc();
     let rows: [(&[&str], &[u8], u64, &[u8]); 5] = [
         (&["record", "a"], &INPUT, 0, b""),
-        (&["extract", "a", "r"], &FILE, 0, b""),
+        (&["extract", "a", "r"], &SOUND, 0, b""),
         (&["make", "1", "1"], &INPUT, 0, b""),
-        (&["list", "a"], &FILE, 0, b"no memory\n"),
-        (&["list", "a"], &FILE, 1, b"start 0\n"),
+        (&["list", "a"], &SOUND, 0, b"no memory\n"),
+        (&["list", "a"], &SOUND, 1, b"start 0\n"),
     ];
     for (words, input, denied, said) in rows {
         let words = words_of(alloc, words)?;

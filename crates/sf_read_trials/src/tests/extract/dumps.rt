@@ -62,7 +62,7 @@ fn dump_of(alloc: Global, file: &[u8], word: &str) -> Result<Bytes, Fail> {
 
 #[test]
 fn samples_are_read_one_by_one(rt: HostRuntime) -> Result<(), Fail> {
-    let dump = dump_of(rt.alloc(), &FILE, "s0,r,a,r")?;
+    let dump = dump_of(rt.alloc(), &SOUND, "s0,r,a,r")?;
     let wanted = b"\
         \x01\0\0\0\0\0\0\0\x01\0\0\0\0\0\0\0\0\0\0\0\x04\x21\x10\x04\x60\
         \x02\x01\
@@ -73,7 +73,7 @@ fn samples_are_read_one_by_one(rt: HostRuntime) -> Result<(), Fail> {
 
 #[test]
 fn samples_are_read_to_the_end(rt: HostRuntime) -> Result<(), Fail> {
-    let dump = dump_of(rt.alloc(), &FILE, "s0,e")?;
+    let dump = dump_of(rt.alloc(), &SOUND, "s0,e")?;
     let wanted = b"\
         \x01\0\0\0\0\0\0\0\x01\0\0\0\0\0\0\0\0\0\0\0\x04\x21\x10\x04\x60\
         \x01\0\0\0\0\0\0\0\x01\0\0\0\0\0\0\x53\x55\0\0\0\x04\x21\x10\x04\x60\
@@ -86,17 +86,17 @@ fn samples_are_read_to_the_end(rt: HostRuntime) -> Result<(), Fail> {
 #[test]
 fn without_a_sample_little_is_read(rt: HostRuntime) -> Result<(), Fail> {
     let alloc = rt.alloc();
-    assert_eq!(rt; dump_of(alloc, &FILE, "s0")?.as_slice(), b"".as_slice());
-    assert_eq!(rt; dump_of(alloc, &FILE, "r")?.as_slice(), b"\0".as_slice());
+    assert_eq!(rt; dump_of(alloc, &SOUND, "s0")?.as_slice(), b"".as_slice());
+    assert_eq!(rt; dump_of(alloc, &SOUND, "r")?.as_slice(), b"\0".as_slice());
     assert_eq!(rt;
-        dump_of(alloc, &FILE, "a")?.as_slice(),
+        dump_of(alloc, &SOUND, "a")?.as_slice(),
         b"\x02\0".as_slice()
     );
     assert_eq!(rt;
-        dump_of(alloc, &FILE, "e,s0,u0,r")?.as_slice(),
+        dump_of(alloc, &SOUND, "e,s0,u0,r")?.as_slice(),
         b"\0\0".as_slice()
     );
-    let past = dump_of(alloc, &FILE, "s0,a,a,a,r")?;
+    let past = dump_of(alloc, &SOUND, "s0,a,a,a,r")?;
     assert_eq!(rt; past.as_slice(), b"\x02\x01\x02\x01\x02\0\0".as_slice());
     Ok(())
 }

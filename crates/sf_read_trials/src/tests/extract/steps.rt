@@ -4,7 +4,7 @@ use super::*;
 
 #[test]
 fn samples_come_one_after_the_other(rt: HostRuntime) -> Result<(), Fail> {
-    let movie = movie_of(rt.alloc(), &FILE)?;
+    let movie = movie_of(rt.alloc(), &SOUND)?;
     let mut extractor = Extractor::new(rt.alloc(), &movie)?;
     assert_eq!(rt; extractor.track(), None);
     assert_eq!(rt; extractor.select(1), Err(NoTrack));
@@ -28,7 +28,7 @@ fn samples_come_one_after_the_other(rt: HostRuntime) -> Result<(), Fail> {
 // begins anew.
 #[test]
 fn selecting_again_changes_nothing(rt: HostRuntime) -> Result<(), Fail> {
-    let movie = movie_of(rt.alloc(), &FILE)?;
+    let movie = movie_of(rt.alloc(), &SOUND)?;
     let mut extractor = Extractor::new(rt.alloc(), &movie)?;
     assert_eq!(rt; extractor.select(0), Ok(()));
     assert_eq!(rt; extractor.advance(), true);
@@ -56,7 +56,7 @@ fn handed_out<'a>(alloc: Global, extractor: &Extractor<'a>, stored: &[u8]) -> Re
 
 #[test]
 fn sound_is_handed_out_as_stored(rt: HostRuntime) -> Result<(), Fail> {
-    let movie = movie_of(rt.alloc(), &FILE)?;
+    let movie = movie_of(rt.alloc(), &SOUND)?;
     let mut extractor = Extractor::new(rt.alloc(), &movie)?;
     assert_eq!(rt; extractor.select(0), Ok(()));
     let out = handed_out(rt.alloc(), &extractor, b"\x21\x10\x04\x60")?;

@@ -49,7 +49,7 @@ fn a_fault_names_the_first_byte_that_is_wrong(rt: HostRuntime) -> Result<(), Fai
 
 // The first command of a word that names a track which the file of one track doesn't have.
 fn missing_of(alloc: Global, word: &str) -> Result<Option<u64>, Fail> {
-    let movie = movie_of(alloc, &FILE)?;
+    let movie = movie_of(alloc, &SOUND)?;
     let plan = read_plan(alloc, word).ok().ok_or("no plan")?;
     Ok(missing_track(&plan, &movie))
 }

@@ -11,7 +11,7 @@ fn a_sample_after_4_gib_is_found(rt: HostRuntime) -> Result<(), Fail> {
         \0\0\0\x14stsz\0\0\0\0\0\0\0\x04\0\0\0\x01\
         \0\0\0\x1cstsc\0\0\0\0\0\0\0\x01\0\0\0\x01\0\0\0\x01\0\0\0\x01\
         \0\0\0\x18co64\0\0\0\0\0\0\0\x01\0\0\0\x01\0\0\0\x04";
-    let front: [&[u8]; 2] = [&FILE[..24], b"\0\0\0\x01mdat\0\0\0\x01\x40\0\0\0"];
+    let front: [&[u8]; 2] = [&SOUND[..24], b"\0\0\0\x01mdat\0\0\0\x01\x40\0\0\0"];
     let moov = moov_of(rt.alloc(), tables, 1)?;
     let mut source = hole_source(rt.alloc(), &front, 24 + 5_368_709_120, moov.as_slice())?;
     let movie = loaded(rt.alloc(), &mut source)?;
@@ -24,7 +24,7 @@ fn a_sample_after_4_gib_is_found(rt: HostRuntime) -> Result<(), Fail> {
 #[test]
 fn a_movie_box_that_is_too_large_is_refused(rt: HostRuntime) -> Result<(), Fail> {
     let size = 268_435_457;
-    let front: [&[u8]; 2] = [&FILE[..52], b"\x10\0\0\x01moov"];
+    let front: [&[u8]; 2] = [&SOUND[..52], b"\x10\0\0\x01moov"];
     let mut source = hole_source(rt.alloc(), &front, 52 + size, b"")?;
     let found = Movie::load(rt.alloc(), &mut source).err();
     assert_eq!(rt; found, refused(MovieFault::MoovTooLarge { at: 52, size }));
@@ -40,8 +40,8 @@ fn samples_that_are_too_large_are_refused(rt: HostRuntime) -> Result<(), Fail> {
         sample: 0,
         size: 67_108_865,
     };
-    let front: [&[u8]; 2] = [&FILE[..24], b"\0\0\0\x01mdat\0\0\0\0\x0c\0\0\x13"];
-    let back: [&[u8]; 3] = [&FILE[52..560], b"\x04\0\0\x01", &FILE[564..]];
+    let front: [&[u8]; 2] = [&SOUND[..24], b"\0\0\0\x01mdat\0\0\0\0\x0c\0\0\x13"];
+    let back: [&[u8]; 3] = [&SOUND[52..560], b"\x04\0\0\x01", &SOUND[564..]];
     let moov = joined(rt.alloc(), &back)?;
     let mut source = hole_source(rt.alloc(), &front, 24 + 201_326_611, moov.as_slice())?;
     let found = Movie::load(rt.alloc(), &mut source).err();

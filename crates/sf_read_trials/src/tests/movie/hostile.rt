@@ -100,7 +100,7 @@ fn tracks_that_share_their_bytes_are_loaded(rt: HostRuntime) -> Result<(), Fail>
         \0\0\0\x14stsz\0\0\0\0\0\0\0\x01\x01\0\0\0\
         \0\0\0\x1cstsc\0\0\0\0\0\0\0\x01\0\0\0\x01\x01\0\0\0\0\0\0\x01\
         \0\0\0\x14stco\0\0\0\0\0\0\0\x01\0\0\0\x28";
-    let front: [&[u8]; 2] = [&FILE[..24], b"\0\0\0\x01mdat\0\0\0\0\x01\0\0\x10"];
+    let front: [&[u8]; 2] = [&SOUND[..24], b"\0\0\0\x01mdat\0\0\0\0\x01\0\0\x10"];
     // 16777215 ticks at 48000 Hz are 349525312 microseconds and a half.
     let last = (63, 16_777_215, sync(16_777_215, 16_777_255, 1), 349_525_312);
     let moov = moov_of(rt.alloc(), tables, 64)?;
@@ -136,7 +136,7 @@ fn with_empty_runs(alloc: Global) -> Result<Bytes, AllocError> {
 fn runs_of_no_samples_are_passed_over(rt: HostRuntime) -> Result<(), Fail> {
     let tables = with_empty_runs(rt.alloc())?;
     let moov = moov_of(rt.alloc(), tables.as_slice(), 1)?;
-    let mut source = hole_source(rt.alloc(), &[&FILE[..52]], 52, moov.as_slice())?;
+    let mut source = hole_source(rt.alloc(), &[&SOUND[..52]], 52, moov.as_slice())?;
     let movie = loaded(rt.alloc(), &mut source)?;
     assert!(rt; has_samples(&movie, &[(0, 2, sync(2048, 48, 4), 42_666)]));
     Ok(())

@@ -52,7 +52,7 @@ fn is_same(alloc: Global, file: &[u8]) -> Result<bool, AllocError> {
 
 /// Whether the file of three samples is so with another byte at a place.
 fn is_same_with(alloc: Global, at: usize, byte: u8) -> Result<bool, AllocError> {
-    let mut file = Bytes::from_slice(alloc, &FILE)?;
+    let mut file = Bytes::from_slice(alloc, &SOUND)?;
     if at < file.len() {
         file.patch(at, &[byte]);
     }
@@ -63,7 +63,7 @@ fn is_same_with(alloc: Global, at: usize, byte: u8) -> Result<bool, AllocError> 
 /// one that is greater by one or by 128, or the most.
 fn first_other(alloc: Global) -> Result<Option<usize>, AllocError> {
     for at in 52..640usize {
-        let byte = FILE[at];
+        let byte = SOUND[at];
         for damaged in [byte.wrapping_add(1), byte ^ 0x80, 0xff] {
             if !is_same_with(alloc, at, damaged)? {
                 return Ok(Some(at));
@@ -75,7 +75,7 @@ fn first_other(alloc: Global) -> Result<Option<usize>, AllocError> {
 
 #[test]
 fn damaged_movies_are_as_the_plain_program_reads_them(rt: HostRuntime) -> Result<(), Fail> {
-    let same = is_same(rt.alloc(), &FILE)?;
+    let same = is_same(rt.alloc(), &SOUND)?;
     let other = first_other(rt.alloc())?;
     assert!(rt; same);
     assert_eq!(rt; other, None);

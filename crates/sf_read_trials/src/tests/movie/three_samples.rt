@@ -11,7 +11,7 @@ fn the_movie_of_three_samples_is_loaded(rt: HostRuntime) -> Result<(), Fail> {
         (0, 1, sync(1024, 44, 4), 21_333),
         (0, 2, sync(2048, 48, 4), 42_666),
     ];
-    let mut source = source_of(rt.alloc(), &FILE, &[])?;
+    let mut source = source_of(rt.alloc(), &SOUND, &[])?;
     let movie = loaded(rt.alloc(), &mut source)?;
     assert!(rt; has_tracks(&movie, &[(TrackKind::Aac, 48_000, 3, 0)]));
     assert!(rt; has_samples(&movie, &samples));
@@ -49,7 +49,7 @@ fn fault_at(length: u64) -> MovieFault {
 /// The first of the lengths to which the file is cut at which something else is told.
 fn first_other_cut(alloc: Global) -> Option<usize> {
     for length in 0..640usize {
-        let (fault, _) = fault_where(alloc, &FILE[..length], u64::MAX);
+        let (fault, _) = fault_where(alloc, &SOUND[..length], u64::MAX);
         if fault != refused(fault_at(length as u64)) {
             return Some(length);
         }
@@ -65,7 +65,7 @@ fn a_file_that_is_cut_short_is_refused_at_its_box(rt: HostRuntime) {
 /// How many reads of the file fail, each with its fault told, until none fails.
 fn failing_reads(alloc: Global) -> Option<u64> {
     for failing in 0..9u64 {
-        match fault_where(alloc, &FILE, failing) {
+        match fault_where(alloc, &SOUND, failing) {
             (None, 0) => return Some(failing),
             (Some(LoadFault::ReadFault), 1) => {}
             _ => return None,
@@ -84,8 +84,8 @@ fn each_read_that_fails_is_told(rt: HostRuntime) {
 #[test]
 fn a_fault_comes_before_later_reads(rt: HostRuntime) {
     let no_moov = MovieFault::NoMoov { at: 52 };
-    let later = fault_where(rt.alloc(), &FILE[..52], 2);
-    let earlier = fault_where(rt.alloc(), &FILE[..52], 1);
+    let later = fault_where(rt.alloc(), &SOUND[..52], 2);
+    let earlier = fault_where(rt.alloc(), &SOUND[..52], 1);
     assert_eq!(rt; later, (refused(no_moov), 0));
     assert_eq!(rt; earlier, (Some(LoadFault::ReadFault), 1));
 }

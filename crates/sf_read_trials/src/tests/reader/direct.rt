@@ -13,7 +13,7 @@ fn two_readers_make_a_dump_each(rt: HostRuntime) -> Result<(), Fail> {
     let end = extracted(
         alloc,
         &["s0,r,a,r", "r"],
-        &FILE,
+        &SOUND,
         Vec::new(alloc),
         &mut shelf,
     )?;
@@ -32,7 +32,7 @@ fn two_readers_make_a_dump_each(rt: HostRuntime) -> Result<(), Fail> {
 fn a_missing_track_makes_no_dump(rt: HostRuntime) -> Result<(), Fail> {
     let alloc = rt.alloc();
     let mut shelf = MemShelf::new(alloc, Vec::new(alloc));
-    let end = extracted(alloc, &["r", "s0,s5"], &FILE, Vec::new(alloc), &mut shelf)?;
+    let end = extracted(alloc, &["r", "s0,s5"], &SOUND, Vec::new(alloc), &mut shelf)?;
     let missing = ExtractOutcome::NoTrack {
         reader: 1,
         command: 1,
@@ -47,7 +47,7 @@ fn a_missing_track_makes_no_dump(rt: HostRuntime) -> Result<(), Fail> {
 fn with_failing_read(alloc: Global, number: u64) -> Result<(ExtractOutcome, Option<usize>), Fail> {
     let mut shelf = MemShelf::new(alloc, Vec::new(alloc));
     let failing = vec![in alloc; number]?;
-    let end = extracted(alloc, &["s0,r,a,r", "r"], &FILE, failing, &mut shelf)?;
+    let end = extracted(alloc, &["s0,r,a,r", "r"], &SOUND, failing, &mut shelf)?;
     Ok((end.outcome, len_of(&shelf, 0)))
 }
 
@@ -76,7 +76,7 @@ fn with_failing_call(
     let end = extracted(
         alloc,
         &["s0,r,a,r", "r"],
-        &FILE,
+        &SOUND,
         Vec::new(alloc),
         &mut shelf,
     )?;
