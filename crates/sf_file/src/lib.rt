@@ -7,6 +7,7 @@ mod laws;
 mod open_track;
 mod out_file;
 mod pieces;
+mod setups;
 mod tracks;
 
 pub use faults::FileFault;
@@ -14,6 +15,4 @@ pub use laws::{
     closed_file_means, held_chunks_are_writable, no_chunks, one_more_appended, one_more_chunk,
 };
 pub use out_file::{Closing, OutFile};
-
-#[cfg(test)]
-mod tests;
+pub use setups::are_setups;

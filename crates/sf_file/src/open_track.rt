@@ -1,6 +1,6 @@
 //! One track of a file that is being written.
 
-ghost use Rattle.std.specs.Prelude.{◌≡◌, ℕ, ◌+◌, ◌-◌, ◌^◌, ◌<◌, ◌≤◌, List, length, Option, IfOk, OnOk};
+ghost use Rattle.std.specs.Prelude.{◌≡◌, ℕ, ◌+◌, ◌-◌, ◌^◌, ◌<◌, ◌≤◌, List, length, Option, IfOk, OnOk, IsTrue};
 ghost use Rattle.sf_meaning.specs.Stbl.{duration_in_rows};
 ghost use Rattle.sf_layout.specs.Layout.{TrackRows, head_of, lead_of, stbl_of};
 ghost use Rattle.sf_moov.specs.Heads.{HasEnd};
@@ -10,7 +10,7 @@ ghost use Rattle.sf_file.specs.Open.{Joins, count_of, track_with};
 ghost use Rattle.sf_file.specs.inner.Tracks.{fresh};
 
 use sf_entry::TrackSetup;
-use sf_gather::LastSample;
+use sf_gather::{LastSample, all_follow};
 use sf_layout::TrackHead;
 use sf_list::Bytes;
 use sf_tables::Tables;
@@ -99,6 +99,16 @@ impl OpenTrack {
         ensures room { OnOk result (length chunk.now.samples ≤ self.new.spare) }
     {
         self.tables.reserve_chunk(chunk)
+    }
+
+    /// Whether a chunk can stand after the others.
+    pub fn can_join(&self, chunk: &Chunk) -> bool
+        ensures holds { IsTrue result → Joins self.now.held chunk.now }
+        ensures only { Joins self.now.held chunk.now → IsTrue result }
+    {
+        !chunk.samples.is_empty()
+            && all_follow(self.setup.scale, self.last, chunk.samples.as_slice())
+            && self.count() + (chunk.samples.len() as u64) < 1 << 32
     }
 
     /// Adds a chunk that begins at this place. It takes no memory.

@@ -1,6 +1,6 @@
 //! A file that is being written.
 
-ghost use Rattle.std.specs.Prelude.{◌≡◌, ℕ, ◌+◌, ◌^◌, ◌<◌, ◌≤◌, ◌==◌, List, [], ◌∷◌, ◌++◌, length, slice_get, Option, Err, OnOk, OnErr, IfOk, IfErr, MatchResult};
+ghost use Rattle.std.specs.Prelude.{◌≡◌, ℕ, ◌+◌, ◌^◌, ◌<◌, ◌≤◌, ◌==◌, List, [], ◌∷◌, ◌++◌, length, slice_get, Option, Err, OnOk, OnErr, IfOk, IfErr, IsTrue, MatchResult};
 ghost use Rattle.sf_tick.specs.declared.types.Chunk.{Chunk};
 ghost use Rattle.sf_world.specs.Contents.{grown};
 ghost use Rattle.sf_world.specs.Counts.{Rose};
@@ -92,6 +92,18 @@ impl<S: Sink> OutFile<S> {
             tracks,
             end: FIRST_PLACE,
         })
+    }
+
+    /// Whether a chunk can be written after the others: it is of one of the file's tracks, isn't empty, and its samples
+    /// follow the track's last one, within what a track may hold.
+    pub fn can_append(&self, chunk: &Chunk) -> bool
+        ensures holds { IsTrue result → Appendable self.now chunk.now }
+        ensures only { Appendable self.now chunk.now → IsTrue result }
+    {
+        match self.tracks.get(chunk.track as usize) {
+            Some(track) => track.can_join(chunk),
+            None => false,
+        }
     }
 
     // How long the movie box would be with one more chunk.

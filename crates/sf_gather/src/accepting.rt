@@ -13,7 +13,7 @@ use sf_tick::{Sample, to_tick};
 use std::alloc::AllocError;
 
 /// The greatest time that is accepted, in microseconds.
-const GREATEST_US: u64 = 1 << 48;
+pub(crate) const GREATEST_US: u64 = 1 << 48;
 
 /// Why a sample isn't taken, in the order in which the causes are looked at.
 #[derive(Clone, Copy, Debug, PartialEq, Eq)]
@@ -64,8 +64,8 @@ pub(crate) struct Times {
     pub compose: u64,
 }
 
-// Whether a composition offset is a signed number of 32 bits.
-fn is_offset(decode: u64, compose: u64) -> bool
+/// Whether a composition offset is a signed number of 32 bits.
+pub(crate) fn is_offset(decode: u64, compose: u64) -> bool
     ensures { result ≡ is_offset decode compose }
 {
     compose.saturating_sub(decode) < 1 << 31 && decode.saturating_sub(compose) <= 1 << 31

@@ -7,12 +7,14 @@
 #![tactic(auto)]
 
 mod accepting;
+mod following;
 mod gather;
 mod given;
 mod laws;
 mod storing;
 
 pub use accepting::SampleFault;
+pub use following::{all_follow, follows};
 pub use gather::Gather;
 pub use given::{Given, LastSample, Options};
 pub use laws::{

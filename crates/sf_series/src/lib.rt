@@ -25,8 +25,6 @@ pub use laws::{
     series_is_read_back, series_takes_chunks, setups_fit, several_writes_keep,
 };
 pub use limits::{LimitShown, Limits};
+pub use names::file_name;
 pub use report::Report;
 pub use series::{Series, Wrote};
-
-#[cfg(test)]
-mod tests;

@@ -1,6 +1,6 @@
 //! A series of files, into which chunks are handed and written.
 
-ghost use Rattle.std.specs.Prelude.{◌≡◌, ◌≢◌, ◌⊎◌, ℕ, ◌+◌, ◌≤◌, Bool, true, false, List, [], length, replicate, Some, None, Ok, Err, IfErr, IfOk, OnErr, OnOk};
+ghost use Rattle.std.specs.Prelude.{◌≡◌, ◌≢◌, ◌⊎◌, ℕ, ◌+◌, ◌≤◌, Bool, true, false, List, [], length, replicate, Some, None, Ok, Err, IfErr, IfOk, IsTrue, OnErr, OnOk};
 ghost use Rattle.sf_tick.specs.declared.types.Chunk.{Chunk};
 ghost use Rattle.sf_world.specs.Counts.{Rose};
 ghost use Rattle.sf_world.specs.Views.{KeptAtMost, ShelfView};
@@ -107,6 +107,25 @@ impl<O: Shelf> Series<O> {
             files,
             fault: None,
         })
+    }
+
+    /// Why nothing more is written, if that is so.
+    pub fn fault(&self) -> Option<SeriesFault>
+        ensures { result ≡ self.now.fault }
+    {
+        self.fault
+    }
+
+    /// Whether a chunk can be handed: it is of one of the tracks, and goes on from what was handed of this one.
+    pub fn can_take(&self, chunk: &Chunk) -> bool
+        ensures holds { IsTrue result → CanTake self.now chunk.now }
+        ensures only { CanTake self.now chunk.now → IsTrue result }
+    {
+        let track = chunk.track as usize;
+        match (self.files.setups.get(track), self.tails.get(track)) {
+            (Some(setup), Some(tail)) => tail.takes(setup.scale, chunk),
+            _ => false,
+        }
     }
 
     /// Hands a chunk of a track. One without samples only marks the track's end, and after a fault nothing is kept of

@@ -1,17 +1,15 @@
-ghost use Rattle.std.specs.Prelude.{◌≡◌, ◌+◌, ◌*◌, ◌^◌, ◌<◌, ◌≤◌, length, sum_by, IsTrue, IfSome};
-ghost use Rattle.std.specs.List.{AllByRecursion};
-ghost use Rattle.sf_gather.specs.Accepting.{is_offset};
-ghost use Rattle.sf_gather.specs.Proper.{AllFollow, Extends, Follows, IsChunk};
-ghost use Rattle.sf_file.specs.Open.{AreSetups};
-ghost use Rattle.sf_series.specs.Series.{AreLimits, CanTake};
+//! A series of files: which chunks stand in which, where it ends, and what fails.
 
-use super::*;
-use crate::tails::HandedTail;
+ghost use Rattle.std.specs.Prelude.{IsTrue};
+ghost use Rattle.sf_series.specs.Series.{AreLimits};
+
+use super::{SAMPLE, sound};
 use sf_entry::TrackSetup;
-use sf_gather::LastSample;
+use sf_file::are_setups;
 use sf_list::{Bytes, Text};
 use sf_meaning::{PlainMovie, PlainTrack, plain_file};
-use sf_tick::{Chunk, Kind, Samples, Stored, to_tick};
+use sf_series::{LimitShown, Limits, Report, Series, SeriesFault, Wrote};
+use sf_tick::{Chunk, Samples, Stored, to_tick};
 use sf_world::{MemShelf, Shelf};
 use std::alloc::{AllocError, Global};
 use std::test::Fail;
@@ -20,17 +18,6 @@ mod failures;
 mod names;
 mod several;
 mod sizes;
-
-/// The sample entry box of AAC at 48000 Hz with two channels: 87 bytes (ISO/IEC 14496-12, 12.2.3;
-/// ISO/IEC 14496-14, 5.6).
-const ENTRY: [u8; 87] = *b"\0\0\0\x57mp4a\0\0\0\0\0\0\0\x01\0\0\0\0\0\0\0\0\
-    \0\x02\0\x10\0\0\0\0\xBB\x80\0\0\
-    \0\0\0\x33esds\0\0\0\0\x03\x80\x80\x80\x22\0\0\0\
-    \x04\x80\x80\x80\x14\x40\x15\0\0\0\0\0\0\0\0\0\0\0\
-    \x05\x80\x80\x80\x02\x11\x90\x06\x80\x80\x80\x01\x02";
-
-/// The bytes of each sample.
-const SAMPLE: [u8; 4] = [0x21, 0x10, 0x04, 0x60];
 
 /// Why a series of the tests didn't go on.
 #[derive(Clone, Copy, Debug, PartialEq, Eq)]
@@ -46,22 +33,11 @@ impl From<AllocError> for Stop {
     }
 }
 
-/// A track of sound at 48000 ticks a second.
-fn sound(alloc: Global) -> Result<TrackSetup, AllocError> {
-    Ok(TrackSetup {
-        kind: Kind::Aac,
-        scale: 48_000,
-        width: 0,
-        height: 0,
-        entry: Bytes::from_slice(alloc, &ENTRY)?,
-    })
-}
-
 /// So many tracks of sound.
 fn sounds(alloc: Global, count: u32) -> Result<Vec<TrackSetup>, AllocError> {
     let mut setups = Vec::new(alloc);
     for _ in 0..count {
-        setups.push(sound(alloc)?)?;
+        setups.push(sound(alloc, 48_000)?)?;
     }
     Ok(setups)
 }
@@ -101,105 +77,6 @@ fn chunk(alloc: Global, track: u32, number: u64, times: &[u64]) -> Result<Chunk,
     })
 }
 
-/// Whether a sample is not before the last one, and near enough.
-fn is_after(last: Option<LastSample>, sample: &Stored) -> bool
-    ensures rises { IsTrue result → IfSome last (λ l. l.dts_us ≤ sample.now.dts_us) }
-    ensures near { IsTrue result → IfSome last (λ l. sample.now.decode < l.decode + 2 ^ 32) }
-{
-    match last {
-        Some(last) => {
-            last.dts_us <= sample.dts_us && sample.decode.saturating_sub(last.decode) < 1 << 32
-        }
-        None => true,
-    }
-}
-
-/// Whether a composition offset is a signed number of 32 bits.
-fn is_offset(decode: u64, compose: u64) -> bool
-    ensures { result ≡ is_offset decode compose }
-{
-    compose.saturating_sub(decode) < 1 << 31 && decode.saturating_sub(compose) <= 1 << 31
-}
-
-/// Whether a sample can stand after the last one.
-fn follows(scale: u32, last: Option<LastSample>, sample: &Stored) -> bool
-    requires { 1 ≤ scale }
-    ensures { IsTrue result → Follows scale last sample.now }
-{
-    sample.dts_us <= 1 << 48
-        && is_after(last, sample)
-        && sample.decode == to_tick(sample.dts_us, scale)
-        && is_offset(sample.decode, sample.compose)
-        && sample.compose <= to_tick(1 << 48, scale)
-        && !sample.bytes.is_empty()
-        && sample.bytes.len() <= 1 << 25
-}
-
-/// Whether all samples can stand after the last one, one after the other.
-fn all_follow(scale: u32, last: Option<LastSample>, samples: &[Stored]) -> bool
-    requires { 1 ≤ scale }
-    ensures { IsTrue result → AllFollow scale last samples.now }
-{
-    let [first, others @ ..] = samples else {
-        return true;
-    };
-    let kept = LastSample {
-        dts_us: first.dts_us,
-        decode: first.decode,
-    };
-    follows(scale, last, first) && all_follow(scale, Some(kept), others)
-}
-
-/// Whether a chunk goes on from a tail.
-fn goes_on(scale: u32, tail: &HandedTail, chunk: &Chunk) -> bool
-    requires { 1 ≤ scale }
-    ensures { IsTrue result → Extends chunk.now.track scale tail.now chunk.now }
-{
-    let number_fits = match tail.number {
-        Some(number) => number < u64::MAX && chunk.number == number + 1,
-        None => chunk.number == 0,
-    };
-    let first_us = match chunk.samples.as_slice().first() {
-        Some(sample) => sample.dts_us,
-        None => 0,
-    };
-    !tail.ended
-        && number_fits
-        && chunk.first_us == first_us
-        && (chunk.last || !chunk.samples.is_empty())
-        && chunk.samples.len() <= 4_194_304
-        && all_follow(scale, tail.last, chunk.samples.as_slice())
-}
-
-/// Whether a chunk can be handed.
-fn can_take<O: Shelf>(series: &Series<O>, chunk: &Chunk) -> bool
-    ensures { IsTrue result → CanTake series.now chunk.now }
-{
-    let track = chunk.track as usize;
-    match (series.files.setups.get(track), series.tails.get(track)) {
-        (Some(setup), Some(tail)) => setup.scale > 0 && goes_on(setup.scale, tail, chunk),
-        _ => false,
-    }
-}
-
-/// Whether each setup has ticks and a short sample entry.
-fn all_usable(setups: &[TrackSetup]) -> bool
-    ensures ticks { IsTrue result → AllByRecursion (λ s. 1 ≤ s.scale) setups.now }
-    ensures entries { IsTrue result → sum_by (λ s. length s.entry) setups.now ≤ 2 ^ 20 * length setups.now }
-{
-    let [first, others @ ..] = setups else {
-        return true;
-    };
-    first.scale > 0 && first.entry.len() <= 1 << 20 && all_usable(others)
-}
-
-/// Whether a file can begin with these setups.
-fn are_setups(setups: &[TrackSetup]) -> bool
-    ensures { IsTrue result → AreSetups setups.now }
-{
-    !setups.is_empty() && setups.len() <= 64 && all_usable(setups)
-}
-
 /// Whether limits are within their ranges.
 fn are_limits(limits: &Limits) -> bool
     ensures { IsTrue result → AreLimits limits.now }
@@ -235,7 +112,7 @@ fn not_started<O: Shelf>(alloc: Global, most: Most, shelf: &mut O) -> Option<Sto
 
 /// Hands a chunk.
 fn hand<O: Shelf>(series: &mut Series<O>, chunk: Chunk) -> Result<(), Stop> {
-    if series.fault.is_none() && !can_take(series, &chunk) {
+    if series.fault().is_none() && !series.can_take(&chunk) {
         return Err(Stop::Unfit);
     }
     match series.hand(chunk) {
@@ -246,7 +123,7 @@ fn hand<O: Shelf>(series: &mut Series<O>, chunk: Chunk) -> Result<(), Stop> {
 
 /// Writes the chunk that is next.
 fn write<O: Shelf>(series: &mut Series<O>, shelf: &mut O) -> Result<Wrote, Stop> {
-    if series.fault.is_some() {
+    if series.fault().is_some() {
         return Err(Stop::Unfit);
     }
     match series.write_one(shelf) {

@@ -1,7 +1,7 @@
 //! The names of files.
 
 use super::*;
-use crate::names::file_name;
+use sf_series::file_name;
 
 /// Whether the file of a number has this name.
 fn is_named(alloc: Global, stem: &str, number: u64, name: &str) -> bool {

@@ -1,15 +1,10 @@
-ghost use Rattle.std.specs.Prelude.{◌≡◌, ◌+◌, ◌*◌, ◌^◌, ◌<◌, ◌≤◌, length, sum_by, IsTrue, IfSome, Option};
-ghost use Rattle.std.specs.List.{AllByRecursion};
-ghost use Rattle.sf_gather.specs.Accepting.{is_offset};
-ghost use Rattle.sf_gather.specs.Proper.{AllFollow, Follows};
-ghost use Rattle.sf_file.specs.Open.{Appendable, AreSetups, Joins};
+//! One file: what stands in it, how long it is, and what fails.
 
-use super::*;
-use crate::open_track::OpenTrack;
+use super::{SAMPLE, sound};
 use sf_entry::TrackSetup;
-use sf_gather::LastSample;
+use sf_file::{Closing, FileFault, OutFile, are_setups};
 use sf_list::Bytes;
-use sf_tick::{Chunk, Kind, Samples, Stored, to_tick};
+use sf_tick::{Chunk, Kind, Samples, Stored};
 use sf_world::{MemShelf, MemSink, Shelf, Sink};
 use std::alloc::{AllocError, Global};
 use std::test::Fail;
@@ -20,14 +15,6 @@ mod read_back;
 mod several;
 mod sizes;
 
-/// The sample entry box of AAC at 48000 Hz with two channels: 87 bytes (ISO/IEC 14496-12, 12.2.3;
-/// ISO/IEC 14496-14, 5.6).
-const ENTRY: [u8; 87] = *b"\0\0\0\x57mp4a\0\0\0\0\0\0\0\x01\0\0\0\0\0\0\0\0\
-    \0\x02\0\x10\0\0\0\0\xBB\x80\0\0\
-    \0\0\0\x33esds\0\0\0\0\x03\x80\x80\x80\x22\0\0\0\
-    \x04\x80\x80\x80\x14\x40\x15\0\0\0\0\0\0\0\0\0\0\0\
-    \x05\x80\x80\x80\x02\x11\x90\x06\x80\x80\x80\x01\x02";
-
 /// The sample entry box of video of 640 by 360 pixels: 111 bytes (ISO/IEC 14496-12, 12.1.3;
 /// ISO/IEC 14496-15, 5.4.2.1).
 const VIDEO_ENTRY: [u8; 111] = *b"\0\0\0\x6Favc1\0\0\0\0\0\0\0\x01\
@@ -36,9 +23,6 @@ const VIDEO_ENTRY: [u8; 111] = *b"\0\0\0\x6Favc1\0\0\0\0\0\0\0\x01\
     \0\0\0\0\0\0\0\0\0\0\0\0\0\0\0\0\0\0\0\0\0\0\0\0\0\0\0\0\0\0\0\0\
     \0\x18\xFF\xFF\
     \0\0\0\x19avcC\x01\x42\xC0\x1E\xFF\xE1\0\x04\x67\x42\xC0\x1E\x01\0\x02\x68\xCE";
-
-/// The bytes of each sample.
-const SAMPLE: [u8; 4] = [0x21, 0x10, 0x04, 0x60];
 
 /// When a sample is decoded, in microseconds and in ticks.
 type Times = (u64, u64);
@@ -58,17 +42,6 @@ impl From<AllocError> for Stop {
     fn from(_: AllocError) -> Stop {
         Stop::Fault(FileFault::NoMemory)
     }
-}
-
-/// A track of sound at so many ticks a second.
-fn sound(alloc: Global, scale: u32) -> Result<TrackSetup, AllocError> {
-    Ok(TrackSetup {
-        kind: Kind::Aac,
-        scale,
-        width: 0,
-        height: 0,
-        entry: Bytes::from_slice(alloc, &ENTRY)?,
-    })
 }
 
 /// A track of video at so many ticks a second.
@@ -108,95 +81,9 @@ fn chunk_of(track: u32, samples: Samples) -> Chunk {
     }
 }
 
-/// Whether a sample is not before the last one, and near enough.
-fn is_after(last: Option<LastSample>, sample: &Stored) -> bool
-    ensures rises { IsTrue result → IfSome last (λ l. l.dts_us ≤ sample.now.dts_us) }
-    ensures near { IsTrue result → IfSome last (λ l. sample.now.decode < l.decode + 2 ^ 32) }
-{
-    match last {
-        Some(last) => {
-            last.dts_us <= sample.dts_us && sample.decode.saturating_sub(last.decode) < 1 << 32
-        }
-        None => true,
-    }
-}
-
-/// Whether a composition offset is a signed number of 32 bits.
-fn is_offset(decode: u64, compose: u64) -> bool
-    ensures { result ≡ is_offset decode compose }
-{
-    compose.saturating_sub(decode) < 1 << 31 && decode.saturating_sub(compose) <= 1 << 31
-}
-
-/// Whether a sample can stand after the last one.
-fn follows(scale: u32, last: Option<LastSample>, sample: &Stored) -> bool
-    requires { 1 ≤ scale }
-    ensures { IsTrue result → Follows scale last sample.now }
-{
-    sample.dts_us <= 1 << 48
-        && is_after(last, sample)
-        && sample.decode == to_tick(sample.dts_us, scale)
-        && is_offset(sample.decode, sample.compose)
-        && sample.compose <= to_tick(1 << 48, scale)
-        && !sample.bytes.is_empty()
-        && sample.bytes.len() <= 1 << 25
-}
-
-/// Whether all samples can stand after the last one, one after the other.
-fn all_follow(scale: u32, last: Option<LastSample>, samples: &[Stored]) -> bool
-    requires { 1 ≤ scale }
-    ensures { IsTrue result → AllFollow scale last samples.now }
-{
-    let [first, others @ ..] = samples else {
-        return true;
-    };
-    let kept = LastSample {
-        dts_us: first.dts_us,
-        decode: first.decode,
-    };
-    follows(scale, last, first) && all_follow(scale, Some(kept), others)
-}
-
-/// Whether a chunk can stand after the others of a track.
-fn can_join(track: &OpenTrack, chunk: &Chunk) -> bool
-    ensures { IsTrue result → Joins track.now.held chunk.now }
-{
-    !chunk.samples.is_empty()
-        && all_follow(track.setup.scale, track.last, chunk.samples.as_slice())
-        && track.count().saturating_add(chunk.samples.len() as u64) < 1 << 32
-}
-
-/// Whether a chunk can be written after the others.
-fn is_appendable<S: Sink>(file: &OutFile<S>, chunk: &Chunk) -> bool
-    ensures { IsTrue result → Appendable file.now chunk.now }
-{
-    match file.tracks.get(chunk.track as usize) {
-        Some(track) => can_join(track, chunk),
-        None => false,
-    }
-}
-
-/// Whether each setup has ticks and a short sample entry.
-fn all_usable(setups: &[TrackSetup]) -> bool
-    ensures ticks { IsTrue result → AllByRecursion (λ s. 1 ≤ s.scale) setups.now }
-    ensures entries { IsTrue result → sum_by (λ s. length s.entry) setups.now ≤ 2 ^ 20 * length setups.now }
-{
-    let [first, others @ ..] = setups else {
-        return true;
-    };
-    first.scale > 0 && first.entry.len() <= 1 << 20 && all_usable(others)
-}
-
-/// Whether a file can begin with these setups.
-fn are_setups(setups: &[TrackSetup]) -> bool
-    ensures { IsTrue result → AreSetups setups.now }
-{
-    !setups.is_empty() && setups.len() <= 64 && all_usable(setups)
-}
-
 /// Writes a chunk, and gives what the file was told to be with it.
 fn append<S: Sink>(file: &mut OutFile<S>, chunk: &Chunk) -> Result<Closing, Stop> {
-    if !is_appendable(file, chunk) {
+    if !file.can_append(chunk) {
         return Err(Stop::Unfit);
     }
     let told = file.size_with(chunk);
