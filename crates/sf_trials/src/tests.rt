@@ -16,6 +16,7 @@ mod inputs;
 mod listing;
 mod make;
 mod movies;
+mod options;
 mod refusals;
 mod several;
 mod sizes;

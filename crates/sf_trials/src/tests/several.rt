@@ -24,7 +24,7 @@ fn named_inputs(
 }
 
 /// Runs the words where these inputs are there, and `read`, a read of each of them, fails.
-fn run_named(
+pub(super) fn run_named(
     alloc: Global,
     words: &[&str],
     inputs: &[(&str, &[u8])],
@@ -43,7 +43,7 @@ fn run_named(
 }
 
 /// The number that no read has.
-const NEVER: u64 = u64::MAX;
+pub(super) const NEVER: u64 = u64::MAX;
 
 #[test]
 fn the_first_input_that_is_not_there_is_told(rt: HostRuntime) -> Result<(), Fail> {
